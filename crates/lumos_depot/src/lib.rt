@@ -1,0 +1,13 @@
+//! The outside, as the engine sees it: where bytes come from and where they go.
+//!
+//! An object may tell the bytes that it holds, as those in memory do, or tell nothing, as the streams of the
+//! system. Each counts its faults, and a call answers a fault only where the count rose in it.
+#![tactic(auto)]
+
+mod memory_sink;
+mod memory_source;
+mod stream;
+
+pub use memory_sink::MemSink;
+pub use memory_source::MemSource;
+pub use stream::{Failed, Sink, Source};

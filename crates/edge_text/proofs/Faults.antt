@@ -14,14 +14,14 @@ use Rattle.edge_text.proofs.Steps.{ReadsTo, line_read, lines_one_more}
 
 -- a faulty line that has ended
 pub fault_read : (seen : List ℕ) (edges : List Edge) (reader : ReaderState) (fault : TextFault) → reader.bytes < reader.limits.max_bytes → ReadsTo reader seen (Err fault) → HasRead seen edges reader →
-  (more : List ℕ) → reading reader.limits (seen ++ 10 ∷ more) ≡ Err fault
+    (more : List ℕ) → reading reader.limits (seen ++ 10 ∷ more) ≡ Err fault
 fault_read seen edges reader fault room is read more =
     let was = read.bytes in
     let limit = reader.limits.max_bytes in
     let k = reader.limits.max_bytes - length seen - 1 in
     let e : reader.limits.max_bytes ≡ length seen + suc (reader.limits.max_bytes - length seen - 1) = omega arith in
     let t : take reader.limits.max_bytes (seen ++ 10 ∷ more) ≡ seen ++ 10 ∷ take (reader.limits.max_bytes - length seen - 1) more =
-      ap (λ n. take n (seen ++ 10 ∷ more)) e ∙ take-append-add seen (10 ∷ more) (suc (reader.limits.max_bytes - length seen - 1)) in
+    ap (λ n. take n (seen ++ 10 ∷ more)) e ∙ take-append-add seen (10 ∷ more) (suc (reader.limits.max_bytes - length seen - 1)) in
     ap (λ text. reading_with reader.limits (seen ++ 10 ∷ more) (read_lines reader.limits 0 0 (lines_of text))) t
     ∙ ap (λ lines. reading_with reader.limits (seen ++ 10 ∷ more) (read_lines reader.limits 0 0 lines)) (lines_one_more seen (take (reader.limits.max_bytes - length seen - 1) more))
     ∙ ap (reading_with reader.limits (seen ++ 10 ∷ more)) (line_read seen edges reader (Err fault) (lines_of (take (reader.limits.max_bytes - length seen - 1) more)) is read)

@@ -120,7 +120,7 @@ pub bad_first : (max : ℕ) (a more : List ℕ) (c : ℕ) → digits a ≡ true 
 bad_first max a more c d h space =
     let front : before_space (c ∷ more) ≡ c ∷ before_space more = cond-false (eqb c 32) _ _ space in
     let source : before_space ((a ++ c ∷ []) ++ more) ≡ (a ++ c ∷ []) ++ before_space more =
-      ap before_space (append_assoc a (c ∷ []) more) ∙ before-digits a (c ∷ more) d ∙ ap (λ t. a ++ t) front ∙ sym (append_assoc a (c ∷ []) (before_space more)) in
+    ap before_space (append_assoc a (c ∷ []) more) ∙ before-digits a (c ∷ more) d ∙ ap (λ t. a ++ t) front ∙ sym (append_assoc a (c ∷ []) (before_space more)) in
     source_field max ((a ++ c ∷ []) ++ more) ((a ++ c ∷ []) ++ before_space more) source (none_above max ((a ++ c ∷ []) ++ before_space more) (not_digits a (before_space more) c h))
 
 -- a space in front of it,
@@ -135,14 +135,14 @@ bad_source max a more n h = source_field max (a ++ more) (a ++ before_space more
 pub bad_second : (max : ℕ) (a b more : List ℕ) (c : ℕ) → digits a ≡ true → is_digit c ≡ false → line_edge max (((a ++ 32 ∷ b) ++ c ∷ []) ++ more) ≡ None
 bad_second max a b more c d h =
     let target : after_space (((a ++ 32 ∷ b) ++ c ∷ []) ++ more) ≡ (b ++ c ∷ []) ++ more =
-      ap (λ t. after_space (t ++ more)) (append_assoc a (32 ∷ b) (c ∷ [])) ∙ ap after_space (append_assoc a (32 ∷ (b ++ c ∷ [])) more) ∙ after_first_field a ((b ++ c ∷ []) ++ more) d in
+    ap (λ t. after_space (t ++ more)) (append_assoc a (32 ∷ b) (c ∷ [])) ∙ ap after_space (append_assoc a (32 ∷ (b ++ c ∷ [])) more) ∙ after_first_field a ((b ++ c ∷ []) ++ more) d in
     target_field max (((a ++ 32 ∷ b) ++ c ∷ []) ++ more) ((b ++ c ∷ []) ++ more) target (none_above max ((b ++ c ∷ []) ++ more) (not_digits b more c h))
 
 -- and a number in it that is too great.
 pub bad_target : (max : ℕ) (a b more : List ℕ) → digits a ≡ true → max < value_of b → line_edge max ((a ++ 32 ∷ b) ++ more) ≡ None
 bad_target max a b more d h =
     let target : after_space ((a ++ 32 ∷ b) ++ more) ≡ b ++ more =
-      ap after_space (append_assoc a (32 ∷ b) more) ∙ after_first_field a (b ++ more) d in
+    ap after_space (append_assoc a (32 ∷ b) more) ∙ after_first_field a (b ++ more) d in
     target_field max ((a ++ 32 ∷ b) ++ more) (b ++ more) target (great_above max b more h)
 
 pub field_digits : (max : ℕ) (field : Option ℕ) (xs : List ℕ) → IsField max field xs → digits xs ≡ true

@@ -32,7 +32,7 @@ have_read (Ok edge) (Err fault) edges h = absurd (cc)
 have_read (Ok edge) (Ok rest) edges h = record { edge = edge; rest = rest; line = refl; lines = refl; all = cc }
 
 pub read_lines-append : (limits : TextLimits) (line made : ℕ) (xs ys : List (List ℕ)) (edges : List Edge) → read_lines limits line made xs ≡ Ok edges →
-  read_lines limits line made (xs ++ ys) ≡ all_before edges (read_lines limits (line + length xs) (made + length xs) ys)
+    read_lines limits line made (xs ++ ys) ≡ all_before edges (read_lines limits (line + length xs) (made + length xs) ys)
 read_lines-append limits line made [] ys edges h =
     let none : edges ≡ [] = cc in
     rw (none, add-zero line, add-zero made) (sym (all_before-nil (read_lines limits line made ys)))

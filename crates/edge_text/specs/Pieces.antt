@@ -1,21 +1,24 @@
--- What pieces read as.
-use Rattle.std.specs.Prelude.{◌≡◌, ℕ, List, ◌++◌, Result, Ok, Err, Vec}
+-- What a text that came in pieces reads as.
+use Rattle.std.specs.Prelude.{◌≡◌, ◌≤◌, ℕ, List, length, take, Result, Ok, Err, Vec, flat_map}
 use Rattle.std.specs.declared.alloc.Global.{Global}
 use Rattle.lumos_base.specs.declared.records.Edge.{Edge}
-use Rattle.edge_text.specs.Reader.{HasRead, ReaderState}
-use Rattle.edge_text.specs.Reading.{reading}
+use Rattle.edge_text.specs.Reading.{greatest_end, reading}
+use Rattle.edge_text.specs.declared.fault.TextEnd.{TextEnd}
+use Rattle.edge_text.specs.declared.fault.TextFault.{TextFault}
 use Rattle.edge_text.specs.declared.fault.TextLimits.{TextLimits}
-use Rattle.edge_text.specs.declared.pieces.PieceStop.{PieceStop}
-use Rattle.edge_text.specs.declared.pieces.PieceStop.TheVariants.{Memory, Text}
 
--- A piece was read behind what was seen; a fault stands whatever comes behind it.
-abbrev pub PieceReads : List ℕ → List ℕ → List Edge → ReaderState → Result (Unit {0}) PieceStop → Type 0
-PieceReads seen piece edges reader (Ok done) = HasRead (seen ++ piece) edges reader
-PieceReads seen piece edges reader (Err (Text fault)) = (more : List ℕ) → reading reader.limits (seen ++ piece ++ more) ≡ Err fault
-PieceReads seen piece edges reader (Err Memory) = Unit {0}
+-- pieces, one after another
+abbrev pub text_of : List (Vec ℕ Global) → List ℕ
+text_of pieces = flat_map (λ piece. piece.items) pieces
 
--- The answer is that of the whole text; only want of memory is no answer.
-abbrev pub ReadsAs : TextLimits → List ℕ → Result (Vec Edge Global) PieceStop → Type 0
-ReadsAs limits text (Ok edges) = reading limits text ≡ Ok edges.items
-ReadsAs limits text (Err (Text fault)) = reading limits text ≡ Err fault
-ReadsAs limits text (Err Memory) = Unit {0}
+-- the edges of the text were made, in the first places
+pub record MakesAll (limits : TextLimits) (text : List ℕ) (places : List Edge) (end : TextEnd) : Type 0 where
+  pub edges : reading limits text ≡ Ok (take end.made places)
+  pub within : end.made ≤ length places
+  pub count : end.edges ≡ length (take end.made places)
+  pub greatest : end.greatest ≡ greatest_end (take end.made places)
+
+-- The answer is that of the text.
+abbrev pub IsReadAs : TextLimits → List ℕ → List Edge → Result TextEnd TextFault → Type 0
+IsReadAs limits text places (Ok end) = MakesAll limits text places end
+IsReadAs limits text places (Err fault) = reading limits text ≡ Err fault

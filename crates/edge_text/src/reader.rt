@@ -1,5 +1,5 @@
 // The reader.
-ghost use Rattle.std.specs.Prelude.{◌≡◌, ◌≤◌, ◌<◌, ◌⊎◌, ◌+◌, ◌++◌, ◌∷◌, [], ℕ, List, length, take, IfErr, IfOk, MatchResult, None, Some, Ok, Err, option_to_list};
+ghost use Rattle.std.specs.Prelude.{◌≡◌, ◌≤◌, ◌<◌, ◌⊎◌, ◌+◌, ◌++◌, ◌∷◌, [], ℕ, List, length, take, IfErr, IfOk, MatchResult, None, Some, Ok, Err, false, option_to_list};
 ghost use Rattle.lumos_base.specs.declared.records.Edge.{Edge};
 ghost use Rattle.edge_text.specs.declared.fault.TextFault.{TextFault};
 ghost use Rattle.edge_text.specs.Reader.{HasRead};
@@ -10,7 +10,11 @@ use crate::{Fed, InputFault, InputWhat, TextEnd, TextFault, TextLimits};
 use lumos_base::Edge;
 use std::marker::Model;
 
-/// Reads the text of an edge list in any pieces, and keeps no line.
+/// Reads the text of an edge list in pieces, however it is cut, and keeps no line. In this first form a line is a
+/// number, one space and a number, as in SNAP's lists without their comments.
+///
+/// Its contracts speak of `HasRead seen edges reader`: it has taken the bytes `seen`, has made the edges `edges` of
+/// the whole lines among them, and has found no fault there.
 #[derive(Drop)]
 pub struct EdgeReader {
     limits: TextLimits,
@@ -76,9 +80,12 @@ fn put_edge(edges_out: &mut [Edge], made: usize, edge: Option<Edge>) -> usize
 }
 
 impl EdgeReader {
-    /// A reader that has read nothing.
+    /// A reader that has read nothing. A vertex is at most 268435455, the edges are at most 2147483648 and the bytes
+    /// at most 1099511627776; it takes no stated number of vertices, and each line makes one edge.
     pub fn new(limits: TextLimits) -> EdgeReader
         requires vertex { limits.max_vertex ≤ 268435455 }
+        requires vertices { limits.vertices ≡ None }
+        requires both { limits.both ≡ false }
         requires edges { limits.max_edges ≤ 2147483648 }
         requires bytes { limits.max_bytes ≤ 1099511627776 }
         ensures read { HasRead [] [] result }
@@ -100,7 +107,7 @@ impl EdgeReader {
     fn take_byte(&mut self, byte: u8) -> Result<Option<Edge>, TextFault>
         ensures reads { (seen : List ℕ) (edges : List Edge) → HasRead seen edges self.old
             → MatchResult result (λ made. HasRead (seen ++ byte ∷ []) (edges ++ option_to_list made) self.new)
-                (λ fault. (more : List ℕ) → reading self.old.limits (seen ++ byte ∷ more) ≡ Err fault) }
+            (λ fault. (more : List ℕ) → reading self.old.limits (seen ++ byte ∷ more) ≡ Err fault) }
         ensures kept { IfErr result (λ fault. self.new.fault ≡ Some fault) }
         ensures limits { self.new.limits ≡ self.old.limits }
         ensures counts { IfOk result (λ _. (self.new.bytes ≡ self.old.bytes + 1) × (self.new.bytes ≤ self.new.limits.max_bytes)) }
@@ -136,12 +143,17 @@ impl EdgeReader {
         }
     }
 
-    /// Takes bytes of a piece until it ends, or fewer than two places are free.
+    /// Takes bytes of a piece until it ends or fewer than two places are free, of at least two that it is given. It
+    /// answers how many bytes it took and how many edges of whole lines it made.
+    ///
+    /// `Input` comes exactly at the first line that is no edge, `TooManyEdges` at the first good line that would make
+    /// an edge too many, both when the line's end was read, and `InputTooLong` at the first byte too many, before
+    /// anything else is done with it. After a fault each later call answers the same one.
     pub fn feed(&mut self, piece: &[u8], edges_out: &mut [Edge]) -> Result<Fed, TextFault>
         requires { 2 ≤ length edges_out.old }
         ensures reads { (seen : List ℕ) (edges : List Edge) → HasRead seen edges self.old
             → MatchResult result (λ fed. HasRead (seen ++ take fed.used piece.now) (edges ++ take fed.made edges_out.new) self.new)
-                (λ fault. (more : List ℕ) → reading self.old.limits (seen ++ piece.now ++ more) ≡ Err fault) }
+            (λ fault. (more : List ℕ) → reading self.old.limits (seen ++ piece.now ++ more) ≡ Err fault) }
         ensures within { IfOk result (λ fed. (fed.used ≤ length piece.now) × (fed.made ≤ length edges_out.new) × (fed.made ≤ fed.used)) }
         ensures stops { IfOk result (λ fed. (fed.used ≡ length piece.now) ⊎ (length edges_out.new < fed.made + 2)) }
         ensures progress { IfOk result (λ fed. 0 < length piece.now → 0 < fed.used) }
@@ -165,14 +177,15 @@ impl EdgeReader {
         Ok(Fed { used, made })
     }
 
-    /// Ends the text.
+    /// Ends the text, whose last line has to have ended: else it is `Input`, a line that is no edge. It answers the
+    /// number of edges and their greatest vertex, where there is one. A fault that was found stands.
     pub fn finish(self, edges_out: &mut [Edge]) -> Result<TextEnd, TextFault>
         requires { 2 ≤ length edges_out.old }
         ensures reads { (seen : List ℕ) (edges : List Edge) → HasRead seen edges self
             → MatchResult result (λ end. (reading self.limits seen ≡ Ok (edges ++ take end.made edges_out.new))
-                    × (end.edges ≡ length (edges ++ take end.made edges_out.new))
-                    × (end.greatest ≡ greatest_end (edges ++ take end.made edges_out.new)))
-                (λ fault. reading self.limits seen ≡ Err fault) }
+            × (end.edges ≡ length (edges ++ take end.made edges_out.new))
+            × (end.greatest ≡ greatest_end (edges ++ take end.made edges_out.new)))
+            (λ fault. reading self.limits seen ≡ Err fault) }
         ensures within { IfOk result (λ end. end.made ≤ length edges_out.new) }
         ensures again { (fault : TextFault) → self.fault ≡ Some fault → result ≡ Err fault }
     {

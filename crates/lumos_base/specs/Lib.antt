@@ -1,0 +1,4 @@
+pub mod ByteLaws
+pub mod Bytes
+pub mod RecordLaws
+pub mod Records

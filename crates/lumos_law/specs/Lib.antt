@@ -1,0 +1,5 @@
+pub mod CombineLaws
+pub mod Combines
+pub mod Joins
+pub mod Program
+pub mod Sync

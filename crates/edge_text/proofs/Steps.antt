@@ -1,125 +1,214 @@
--- What a reader stands for after one more byte.
-use Rattle.std.proofs.Common.{◌≡◌, ◌≤◌, ◌<◌, ℕ, ◌+◌, ◌-◌, Bool, true, false, eqb, List, [], ◌∷◌, ◌++◌, length, take, drop, get_or, suc, Option, Some, None, Result, Ok, Err, max, unwrap_or, fold, refl, sym, ◌∙◌, ap, subst, arith}
-use Rattle.std.proofs.Math.Seq.{take-add}
-use Rattle.std.specs.Option.{option_to_list}
-use Rattle.std.proofs.lemmas.List.{append-nil, append_assoc, drop_more, length-append, take_more, take-append-drop}
-use Rattle.std.proofs.lemmas.List.Sums.{fold-append}
-use Rattle.std.proofs.lemmas.Bool.{ne_eqb}
+-- What a reader stands for after more bytes.
+use Rattle.std.specs.Prelude.{IfOk, MatchResult}
+use Rattle.std.proofs.Common.{◌≡◌, ◌≤◌, ◌<◌, ℕ, ◌+◌, ◌-◌, true, false, List, [], ◌∷◌, ◌++◌, length, take, drop, get_or, suc, Option, Result, Ok, Err, ltb, refl, sym, ◌∙◌, ap, subst, inl, inr, ◌⊎◌, arith}
+use Rattle.std.proofs.Math.Seq.{take-add, take-append-add}
+use Rattle.std.proofs.lemmas.Bool.{cases_Bool, cond-false, cond-true, le-ltb, lt-ltb}
+use Rattle.std.proofs.lemmas.List.{append-nil, append_assoc, drop_more, length-append, take-append-drop, take-take, take_at, take_more}
 use Rattle.lumos_base.specs.declared.records.Edge.{Edge}
-use Rattle.edge_text.specs.Reader.{HasRead, IsPart, ReaderState}
-use Rattle.edge_text.specs.Reading.{greatest_end, line_before, line_of, read_line, read_lines}
-use Rattle.edge_text.specs.Text.{line_edge, lines_of, rest_of}
+use Rattle.edge_text.specs.Lines.{last_line, lines_of, rest_of}
+use Rattle.edge_text.specs.Parts.{IsOpen}
+use Rattle.edge_text.specs.Reader.{HasRead, ReaderState}
+use Rattle.edge_text.specs.Reading.{all_before, counted_lines, greatest_end, line_before, line_edge, line_of, listed, read_lines, reading, reading_with}
+use Rattle.edge_text.specs.declared.fault.Fed.{Fed}
 use Rattle.edge_text.specs.declared.fault.TextLimits.{TextLimits}
 use Rattle.edge_text.specs.declared.fault.TextFault.{TextFault}
-use Rattle.edge_text.specs.declared.part.LinePart.{LinePart}
-use Rattle.edge_text.specs.declared.part.LinePart.TheVariants.{First}
-use Rattle.edge_text.proofs.LineEnds.{lines-append, lines-ended, lines-rest, lines-unended, rest-append, rest-ended, rest-unended}
-use Rattle.edge_text.proofs.Lists.{all_before, length-read, read_lines-append}
+use Rattle.edge_text.specs.declared.fault.TextFault.TheVariants.{InputTooLong}
+use Rattle.edge_text.specs.declared.part.Fields.TheVariants.{Good}
+use Rattle.edge_text.specs.declared.part.GoodFields.TheVariants.{Nothing}
+use Rattle.edge_text.specs.declared.part.LinePart.TheVariants.{Between}
+use Rattle.edge_text.specs.declared.part.OpenLine.{OpenLine}
+use Rattle.edge_text.proofs.LineEnds.{lines-longer, lines-one_more, rest-longer, rest-none}
+use Rattle.edge_text.proofs.Lists.{read_lines-append}
 
-lines_same : (seen : List ℕ) (byte : ℕ) → eqb byte 10 ≡ false → lines_of (seen ++ byte ∷ []) ≡ lines_of seen
-lines_same seen byte ne = lines-append seen (byte ∷ []) ∙ ap (λ l. lines_of seen ++ l) (lines-unended (rest_of seen) byte (lines-rest seen) ne) ∙ append-nil (lines_of seen)
+pub edges_along : (seen : List ℕ) (edges others : List Edge) (reader : ReaderState) → edges ≡ others → HasRead seen edges reader → HasRead seen others reader
+edges_along seen edges others reader same read = subst (λ es. HasRead seen es reader) same read
 
-rest_longer : (seen : List ℕ) (byte : ℕ) → eqb byte 10 ≡ false → rest_of (seen ++ byte ∷ []) ≡ rest_of seen ++ byte ∷ []
-rest_longer seen byte ne = rest-append seen (byte ∷ []) ∙ rest-unended (rest_of seen) byte (lines-rest seen) ne
+pub text_along : (seen others : List ℕ) (edges : List Edge) (reader : ReaderState) → seen ≡ others → HasRead seen edges reader → HasRead others edges reader
+text_along seen others edges reader same read = subst (λ t. HasRead t edges reader) same read
 
--- a byte that ends no line
-pub other_read : (seen : List ℕ) (edges : List Edge) (reader : ReaderState) (byte : ℕ) (part : LinePart) → (byte ≡ 10 → ⊥) → reader.bytes < reader.limits.max_bytes →
-    ((bytes : List ℕ) → IsPart reader.limits.max_vertex reader.part bytes → IsPart reader.limits.max_vertex part (bytes ++ byte ∷ [])) → HasRead seen edges reader →
-    HasRead (seen ++ byte ∷ []) (edges ++ []) (record reader { bytes = reader.bytes + 1; part = part })
-other_read seen edges reader byte part other room step read =
-    let ne = ne_eqb byte 10 other in
-    let lines = lines_same seen byte ne in
-    let long = length-append seen (byte ∷ []) in
+-- bytes that end no line
+pub open_read : (seen xs : List ℕ) (edges : List Edge) (reader : ReaderState) (used : ℕ) (line : OpenLine) → HasRead seen edges reader → lines_of xs ≡ [] → used ≡ length xs → reader.bytes + used ≤ reader.limits.max_bytes →
+    IsOpen reader.limits line (rest_of seen ++ xs) → HasRead (seen ++ xs) edges (record reader { bytes = reader.bytes + used; line = line })
+open_read seen xs edges reader used line read none size room is =
+    let lines = lines-longer seen xs none in
+    let long = length-append seen xs in
     let was = read.bytes in
-    let all = append-nil edges in
     record {
       short = omega arith;
       bytes = omega arith;
       lines = read.lines ∙ ap length (sym lines);
-      made = ap (read_lines reader.limits 0 0) lines ∙ read.made ∙ ap Ok (sym all);
-      count = read.count ∙ ap length (sym all);
-      greatest = read.greatest ∙ ap greatest_end (sym all);
-      part = subst (IsPart reader.limits.max_vertex part) (sym (rest_longer seen byte ne)) (step (rest_of seen) read.part);
+      made = ap (read_lines reader.limits 0 0) lines ∙ read.made;
+      count = read.count;
+      greatest = read.greatest;
+      line = subst (IsOpen reader.limits line) (sym (rest-longer seen xs none)) is;
       fault = read.fault;
     }
 
-pub lines_one_more : (seen more : List ℕ) → lines_of (seen ++ 10 ∷ more) ≡ lines_of seen ++ rest_of seen ∷ lines_of more
-lines_one_more seen more = lines-append seen (10 ∷ more) ∙ ap (λ l. lines_of seen ++ l) (lines-ended (rest_of seen) more (lines-rest seen))
+-- what the line that ends gives
+abbrev pub LineGives : ReaderState → List ℕ → Result (List Edge) TextFault → Type 0
+LineGives reader bytes r = line_of reader.limits reader.lines reader.edges (line_edge reader.limits bytes) ≡ r
 
-rest_none : (seen : List ℕ) → rest_of (seen ++ 10 ∷ []) ≡ []
-rest_none seen = rest-append seen (10 ∷ []) ∙ rest-ended (rest_of seen) [] (lines-rest seen)
-
--- the line that ends is read
-abbrev pub ReadsTo : ReaderState → List ℕ → Result Edge TextFault → Type 0
-ReadsTo reader seen r = line_of reader.limits reader.lines reader.edges (line_edge reader.limits.max_vertex (rest_of seen)) ≡ r
-
--- what the line that ends gives, where the lines before it are read
-pub line_read : (seen : List ℕ) (edges : List Edge) (reader : ReaderState) (r : Result Edge TextFault) (others : List (List ℕ)) → ReadsTo reader seen r → HasRead seen edges reader →
-    read_lines reader.limits 0 0 (lines_of seen ++ rest_of seen ∷ others) ≡ all_before edges (line_before r (read_lines reader.limits (reader.lines + 1) (reader.edges + 1) others))
-line_read seen edges reader r others is read =
-    let count = length-read reader.limits 0 0 (lines_of seen) edges read.made in
+-- and others behind it, where the lines before it are read
+line_read : (seen bytes : List ℕ) (edges : List Edge) (reader : ReaderState) (r : Result (List Edge) TextFault) (others : List (List ℕ)) → LineGives reader bytes r → HasRead seen edges reader →
+    read_lines reader.limits 0 0 (lines_of seen ++ bytes ∷ others) ≡ all_before edges (line_before r (λ es. read_lines reader.limits (reader.lines + 1) (reader.edges + length es) others))
+line_read seen bytes edges reader r others is read =
     let was = read.lines in
     let had = read.count in
     let l : 0 + length (lines_of seen) ≡ reader.lines = omega arith in
-    let m : 0 + length (lines_of seen) ≡ reader.edges = omega arith in
-    read_lines-append reader.limits 0 0 (lines_of seen) (rest_of seen ∷ others) edges read.made
-    ∙ ap (λ n. all_before edges (read_lines reader.limits n (0 + length (lines_of seen)) (rest_of seen ∷ others))) l
-    ∙ ap (λ n. all_before edges (read_lines reader.limits reader.lines n (rest_of seen ∷ others))) m
-    ∙ ap (λ f. all_before edges (line_before f (read_lines reader.limits (reader.lines + 1) (reader.edges + 1) others))) is
+    let m : 0 + length edges ≡ reader.edges = omega arith in
+    read_lines-append reader.limits 0 0 (lines_of seen) (bytes ∷ others) edges read.made
+    ∙ ap (λ n. all_before edges (read_lines reader.limits n (0 + length edges) (bytes ∷ others))) l
+    ∙ ap (λ n. all_before edges (read_lines reader.limits reader.lines n (bytes ∷ others))) m
+    ∙ ap (λ f. all_before edges (line_before f (λ es. read_lines reader.limits (reader.lines + 1) (reader.edges + length es) others))) is
 
--- a line feed behind a good line
-pub end_read : (seen : List ℕ) (edges : List Edge) (reader : ReaderState) (edge : Edge) → reader.bytes < reader.limits.max_bytes → ReadsTo reader seen (Ok edge) → HasRead seen edges reader →
-    HasRead (seen ++ 10 ∷ []) (edges ++ edge ∷ []) (record reader { bytes = reader.bytes + 1; lines = reader.lines + 1; edges = reader.edges + 1; greatest = Some (max (unwrap_or reader.greatest 0) (max edge.source.0 edge.target.0)); part = First None })
-end_read seen edges reader edge room is read =
-    let long = length-append seen (10 ∷ []) in
+-- a good line that ends
+pub end_read : (seen xs : List ℕ) (edges made : List Edge) (reader : ReaderState) (used count : ℕ) (greatest : Option ℕ) → HasRead seen edges reader → lines_of xs ≡ [] →
+    used ≡ length xs + 1 → reader.bytes + used ≤ reader.limits.max_bytes → LineGives reader (rest_of seen ++ xs) (Ok made) → count ≡ length made → greatest ≡ greatest_end (edges ++ made) →
+    HasRead (seen ++ (xs ++ 10 ∷ [])) (edges ++ made) (record reader { bytes = reader.bytes + used; lines = reader.lines + 1; edges = reader.edges + count; greatest = greatest; line = record { part = Between (Good Nothing); returned = false } })
+end_read seen xs edges made reader used count greatest read none size room is counted most =
+    let long = length-append seen (xs ++ 10 ∷ []) in
+    let longer = length-append xs (10 ∷ []) in
     let was = read.bytes in
-    let lines = lines_one_more seen [] in
-    let more = length-append (lines_of seen) (rest_of seen ∷ []) in
-    let counted = read.lines in
+    let lines = lines-one_more seen xs [] none in
+    let more = length-append (lines_of seen) ((rest_of seen ++ xs) ∷ []) in
+    let had_lines = read.lines in
     let had = read.count in
-    let edges_more = length-append edges (edge ∷ []) in
+    let edges_more = length-append edges made in
     record {
       short = omega arith;
       bytes = omega arith;
       lines = let e = ap length lines in omega arith;
-      made = ap (read_lines reader.limits 0 0) lines ∙ line_read seen edges reader (Ok edge) [] is read;
+      made = ap (read_lines reader.limits 0 0) lines ∙ line_read seen (rest_of seen ++ xs) edges reader (Ok made) [] is read ∙ ap (λ es. Ok (edges ++ es)) (append-nil made);
       count = omega arith;
-      greatest = ap (λ g. Some (max (unwrap_or g 0) (max edge.source.0 edge.target.0))) read.greatest
-          ∙ sym (fold-append (λ greatest edge. Some (max (unwrap_or greatest 0) (max edge.source.0 edge.target.0))) None edges (edge ∷ []));
-      part = rest_none seen;
+      greatest = most;
+      line = subst (IsOpen reader.limits (record { part = Between (Good Nothing); returned = false })) (sym (rest-none seen xs none)) (λ more. refl, refl);
       fault = read.fault;
     }
 
--- one byte of a piece more
-pub piece_read : (seen piece : List ℕ) (edges outs now : List Edge) (used made then_made byte : ℕ) (edge : Option Edge) (reader : ReaderState) → used < length piece → byte ≡ get_or piece used 0 →
-    take then_made now ≡ take made outs ++ option_to_list edge → HasRead ((seen ++ take used piece) ++ byte ∷ []) ((edges ++ take made outs) ++ option_to_list edge) reader →
-    HasRead (seen ++ take (used + 1) piece) (edges ++ take then_made now) reader
-piece_read seen piece edges outs now used made then_made byte edge reader inside is put read =
-    let bytes : (seen ++ take used piece) ++ byte ∷ [] ≡ seen ++ take (used + 1) piece =
-    append_assoc seen (take used piece) (byte ∷ []) ∙ ap (λ b. seen ++ (take used piece ++ b ∷ [])) is ∙ ap (λ t. seen ++ t) (sym (take_more piece used 0 inside)) in
-    let all : (edges ++ take made outs) ++ option_to_list edge ≡ edges ++ take then_made now =
-    append_assoc edges (take made outs) (option_to_list edge) ∙ ap (λ t. edges ++ t) (sym put) in
-    subst (λ es. HasRead (seen ++ take (used + 1) piece) es reader) all (subst (λ s. HasRead s ((edges ++ take made outs) ++ option_to_list edge) reader) bytes read)
+-- a faulty line that ends, among the lines that count
+fault_counted : (seen bytes text : List ℕ) (edges : List Edge) (reader : ReaderState) (fault : TextFault) (others : List (List ℕ)) → HasRead seen edges reader → LineGives reader bytes (Err fault) →
+    counted_lines reader.limits text ≡ lines_of seen ++ bytes ∷ others → reading reader.limits text ≡ Err fault
+fault_counted seen bytes text edges reader fault others read is lines =
+    ap (λ ls. reading_with reader.limits (ltb reader.limits.max_bytes (length text)) (read_lines reader.limits 0 0 ls)) lines
+    ∙ ap (reading_with reader.limits (ltb reader.limits.max_bytes (length text))) (line_read seen bytes edges reader (Err fault) others is read)
 
--- a fault stands, whatever is left of the piece
-pub piece_fault : (seen piece more : List ℕ) (used byte : ℕ) → used < length piece → byte ≡ get_or piece used 0 →
-    (seen ++ take used piece) ++ byte ∷ (drop (used + 1) piece ++ more) ≡ seen ++ piece ++ more
-piece_fault seen piece more used byte inside is =
-    let rest : byte ∷ drop (used + 1) piece ≡ drop used piece = ap (λ b. b ∷ drop (used + 1) piece) is ∙ sym (drop_more piece used 0 inside) in
-    append_assoc seen (take used piece) (byte ∷ (drop (used + 1) piece ++ more))
-    ∙ ap (λ r. seen ++ (take used piece ++ (r ++ more))) rest
-    ∙ ap (λ t. seen ++ t) (sym (append_assoc (take used piece) (drop used piece) more))
-    ∙ ap (λ t. seen ++ (t ++ more)) (take-append-drop used piece)
+-- whatever comes behind it
+fault_at : (seen xs more : List ℕ) (edges : List Edge) (reader : ReaderState) (fault : TextFault) → HasRead seen edges reader → lines_of xs ≡ [] → reader.bytes + length xs < reader.limits.max_bytes →
+    LineGives reader (rest_of seen ++ xs) (Err fault) →
+    (ltb reader.limits.max_bytes (length (seen ++ (xs ++ 10 ∷ more))) ≡ true) ⊎ (ltb reader.limits.max_bytes (length (seen ++ (xs ++ 10 ∷ more))) ≡ false) →
+    reading reader.limits (seen ++ (xs ++ 10 ∷ more)) ≡ Err fault
+fault_at seen xs more edges reader fault read none room is (inl long) =
+    let was = read.bytes in
+    let front = length-append seen xs in
+    let size : reader.limits.max_bytes ≡ length (seen ++ xs) + suc (reader.limits.max_bytes - length seen - length xs - 1) = omega arith in
+    let text : take reader.limits.max_bytes (seen ++ (xs ++ 10 ∷ more)) ≡ seen ++ (xs ++ 10 ∷ take (reader.limits.max_bytes - length seen - length xs - 1) more) =
+    ap (take reader.limits.max_bytes) (sym (append_assoc seen xs (10 ∷ more))) ∙ ap (λ n. take n (seen ++ xs ++ 10 ∷ more)) size
+    ∙ take-append-add (seen ++ xs) (10 ∷ more) (suc (reader.limits.max_bytes - length seen - length xs - 1)) ∙ append_assoc seen xs (10 ∷ take (reader.limits.max_bytes - length seen - length xs - 1) more) in
+    fault_counted seen (rest_of seen ++ xs) (seen ++ (xs ++ 10 ∷ more)) edges reader fault (lines_of (take (reader.limits.max_bytes - length seen - length xs - 1) more)) read is
+    (cond-true (ltb reader.limits.max_bytes (length (seen ++ (xs ++ 10 ∷ more)))) _ _ long ∙ ap lines_of text ∙ lines-one_more seen xs (take (reader.limits.max_bytes - length seen - length xs - 1) more) none)
+fault_at seen xs more edges reader fault read none room is (inr short) =
+    fault_counted seen (rest_of seen ++ xs) (seen ++ (xs ++ 10 ∷ more)) edges reader fault (lines_of more ++ last_line (rest_of (seen ++ (xs ++ 10 ∷ more)))) read is
+    (cond-false (ltb reader.limits.max_bytes (length (seen ++ (xs ++ 10 ∷ more)))) _ _ short
+    ∙ ap (λ ls. ls ++ last_line (rest_of (seen ++ (xs ++ 10 ∷ more)))) (lines-one_more seen xs more none)
+    ∙ append_assoc (lines_of seen) ((rest_of seen ++ xs) ∷ lines_of more) (last_line (rest_of (seen ++ (xs ++ 10 ∷ more)))))
+
+pub fault_read : (seen xs more : List ℕ) (edges : List Edge) (reader : ReaderState) (fault : TextFault) → HasRead seen edges reader → lines_of xs ≡ [] → reader.bytes + length xs < reader.limits.max_bytes →
+    LineGives reader (rest_of seen ++ xs) (Err fault) → reading reader.limits (seen ++ (xs ++ 10 ∷ more)) ≡ Err fault
+fault_read seen xs more edges reader fault read none room is =
+    fault_at seen xs more edges reader fault read none room is (cases_Bool (ltb reader.limits.max_bytes (length (seen ++ (xs ++ 10 ∷ more)))))
+
+-- a byte too many
+pub too_long : (seen more : List ℕ) (edges : List Edge) (reader : ReaderState) → HasRead seen edges reader → reader.bytes ≡ reader.limits.max_bytes → 0 < length more →
+    reading reader.limits (seen ++ more) ≡ Err (InputTooLong reader.limits.max_bytes)
+too_long seen more edges reader read full some =
+    let was = read.bytes in
+    let size = length-append seen more in
+    let long : ltb reader.limits.max_bytes (length (seen ++ more)) ≡ true = lt-ltb reader.limits.max_bytes (length (seen ++ more)) (omega arith) in
+    let lines : counted_lines reader.limits (seen ++ more) ≡ lines_of seen =
+    cond-true (ltb reader.limits.max_bytes (length (seen ++ more))) _ _ long ∙ ap lines_of (take_at seen more reader.limits.max_bytes (omega arith)) in
+    ap (λ ls. reading_with reader.limits (ltb reader.limits.max_bytes (length (seen ++ more))) (read_lines reader.limits 0 0 ls)) lines
+    ∙ ap (reading_with reader.limits (ltb reader.limits.max_bytes (length (seen ++ more)))) read.made
+    ∙ ap (λ b. reading_with reader.limits b (Ok edges)) long
+
+-- The end of a text: its lines, and the bytes behind them.
+end_reading : (seen : List ℕ) (edges : List Edge) (reader : ReaderState) → HasRead seen edges reader →
+    reading reader.limits seen ≡ reading_with reader.limits false (read_lines reader.limits 0 0 (lines_of seen ++ last_line (rest_of seen)))
+end_reading seen edges reader read =
+    let short = le-ltb reader.limits.max_bytes (length seen) read.short in
+    ap (λ ls. reading_with reader.limits (ltb reader.limits.max_bytes (length seen)) (read_lines reader.limits 0 0 ls)) (cond-false (ltb reader.limits.max_bytes (length seen)) _ _ short)
+    ∙ ap (λ b. reading_with reader.limits b (read_lines reader.limits 0 0 (lines_of seen ++ last_line (rest_of seen)))) short
+
+line_before-nil : (r : Result (List Edge) TextFault) → line_before r (λ es. Ok []) ≡ r
+line_before-nil (Err fault) = refl
+line_before-nil (Ok edges) = ap Ok (append-nil edges)
+
+-- what they give, of which a blank line gives nothing
+end_lines : (seen rest : List ℕ) (edges : List Edge) (reader : ReaderState) (r : Result (List Edge) TextFault) → HasRead seen edges reader → reader.edges ≤ reader.limits.max_edges → LineGives reader rest r →
+    read_lines reader.limits 0 0 (lines_of seen ++ last_line rest) ≡ all_before edges r
+end_lines seen [] edges reader r read few is =
+    let fits : ltb reader.limits.max_edges (reader.edges + 0) ≡ false = le-ltb reader.limits.max_edges (reader.edges + 0) (omega arith) in
+    ap (read_lines reader.limits 0 0) (append-nil (lines_of seen)) ∙ read.made ∙ ap Ok (sym (append-nil edges))
+    ∙ ap (all_before edges) (sym (cond-false (ltb reader.limits.max_edges (reader.edges + 0)) _ _ fits) ∙ is)
+end_lines seen (byte ∷ bytes) edges reader r read few is =
+    line_read seen (byte ∷ bytes) edges reader r [] is read ∙ ap (all_before edges) (line_before-nil r)
+
+pub good_end : (seen : List ℕ) (edges made : List Edge) (reader : ReaderState) → HasRead seen edges reader → reader.edges ≤ reader.limits.max_edges → LineGives reader (rest_of seen) (Ok made) →
+    reading reader.limits seen ≡ Ok (listed reader.limits (edges ++ made))
+good_end seen edges made reader read few is =
+    end_reading seen edges reader read ∙ ap (reading_with reader.limits false) (end_lines seen (rest_of seen) edges reader (Ok made) read few is)
+
+pub faulty_end : (seen : List ℕ) (edges : List Edge) (reader : ReaderState) (fault : TextFault) → HasRead seen edges reader → reader.edges ≤ reader.limits.max_edges → LineGives reader (rest_of seen) (Err fault) →
+    reading reader.limits seen ≡ Err fault
+faulty_end seen edges reader fault read few is =
+    end_reading seen edges reader read ∙ ap (reading_with reader.limits false) (end_lines seen (rest_of seen) edges reader (Err fault) read few is)
+
+-- A line feed in a text: the bytes before it with it,
+pub line_taken : (text : List ℕ) (len : ℕ) → len < length text → get_or text len 0 ≡ 10 → take len text ++ 10 ∷ [] ≡ take (len + 1) text
+line_taken text len inside is = ap (λ b. take len text ++ b ∷ []) (sym is) ∙ sym (take_more text len 0 inside)
+
+-- and with all others
+pub line_left : (text more : List ℕ) (len : ℕ) → len < length text → get_or text len 0 ≡ 10 → take len text ++ 10 ∷ (drop (len + 1) text ++ more) ≡ text ++ more
+line_left text more len inside is =
+    ap (λ b. take len text ++ b ∷ (drop (len + 1) text ++ more)) (sym is)
+    ∙ ap (λ t. take len text ++ (t ++ more)) (sym (drop_more text len 0 inside))
+    ∙ sym (append_assoc (take len text) (drop len text) more)
+    ∙ ap (λ t. t ++ more) (take-append-drop len text)
+
+-- A line that ended, as a part of the text that it stands in
+pub line_done : (seen text : List ℕ) (edges outs : List Edge) (len : ℕ) (limits : TextLimits) (reader : ReaderState) (r : Result Fed TextFault) → len < length text → get_or text len 0 ≡ 10 →
+    IfOk r (λ fed. (fed.used ≡ len + 1) × (fed.made ≤ length outs)) →
+    MatchResult r (λ fed. HasRead (seen ++ (take len text ++ 10 ∷ [])) (edges ++ take fed.made outs) reader) (λ fault. (more : List ℕ) → reading limits (seen ++ (take len text ++ 10 ∷ more)) ≡ Err fault) →
+    MatchResult r (λ fed. HasRead (seen ++ take fed.used text) (edges ++ take fed.made outs) reader) (λ fault. (more : List ℕ) → reading limits (seen ++ (text ++ more)) ≡ Err fault)
+line_done seen text edges outs len limits reader (Ok fed) inside ends within h =
+    subst (λ t. HasRead (seen ++ t) (edges ++ take fed.made outs) reader) (line_taken text len inside ends ∙ ap (λ n. take n text) (sym within.0)) h
+line_done seen text edges outs len limits reader (Err fault) inside ends within h = λ more.
+    subst (λ t. reading limits (seen ++ t) ≡ Err fault) (line_left text more len inside ends) (h (drop (len + 1) text ++ more))
+
+-- bytes of a text from a place on: some,
+pub part_read : (seen text part : List ℕ) (edges : List Edge) (used n : ℕ) (reader : ReaderState) → part ≡ drop used text → HasRead ((seen ++ take used text) ++ take n part) edges reader → HasRead (seen ++ take (used + n) text) edges reader
+part_read seen text part edges used n reader is read =
+    subst (λ s. HasRead s edges reader)
+    (append_assoc seen (take used text) (take n part) ∙ ap (λ p. seen ++ (take used text ++ take n p)) is ∙ ap (λ t. seen ++ t) (sym (take-add used n text))) read
+
+-- and all
+pub part_left : (seen text part more : List ℕ) (used : ℕ) → part ≡ drop used text → (seen ++ take used text) ++ (part ++ more) ≡ seen ++ text ++ more
+part_left seen text part more used is =
+    append_assoc seen (take used text) (part ++ more)
+    ∙ ap (λ p. seen ++ (take used text ++ (p ++ more))) is
+    ∙ ap (λ t. seen ++ t) (sym (append_assoc (take used text) (drop used text) more) ∙ ap (λ t. t ++ more) (take-append-drop used text))
+    ∙ sym (append_assoc seen text more)
+
+pub other_way : (n m : ℕ) (P : Type 0) → (n ≡ m) ⊎ P → (n ≡ m → ⊥) → P
+other_way n m P (inl e) h = absurd (h e)
+other_way n m P (inr p) h = p
+
+-- the front of a piece
+pub front_taken : (piece front : List ℕ) (used room : ℕ) → front ≡ take room piece → used ≤ room → take used front ≡ take used piece
+front_taken piece front used room is within = ap (take used) is ∙ take-take used room piece within
+
+pub front_left : (seen piece front more : List ℕ) (room : ℕ) → front ≡ take room piece → (seen ++ front) ++ (drop room piece ++ more) ≡ seen ++ piece ++ more
+front_left seen piece front more room is =
+    append_assoc seen front (drop room piece ++ more)
+    ∙ ap (λ f. seen ++ (f ++ (drop room piece ++ more))) is
+    ∙ ap (λ t. seen ++ t) (sym (append_assoc (take room piece) (drop room piece) more) ∙ ap (λ t. t ++ more) (take-append-drop room piece))
     ∙ sym (append_assoc seen piece more)
-
--- a part of a piece more
-pub part_read : (seen piece part : List ℕ) (edges outs now : List Edge) (used n made : ℕ) (reader : ReaderState) → part ≡ drop used piece → now ≡ edges ++ take made outs →
-    HasRead ((seen ++ take used piece) ++ take n part) (edges ++ take made outs) reader → HasRead (seen ++ take (used + n) piece) now reader
-part_read seen piece part edges outs now used n made reader is all read =
-    let bytes : (seen ++ take used piece) ++ take n part ≡ seen ++ take (used + n) piece =
-    append_assoc seen (take used piece) (take n part) ∙ ap (λ p. seen ++ (take used piece ++ take n p)) is ∙ ap (λ t. seen ++ t) (sym (take-add used n piece)) in
-    subst (λ es. HasRead (seen ++ take (used + n) piece) es reader) (sym all) (subst (λ s. HasRead s (edges ++ take made outs) reader) bytes read)
-
-pub part_fault : (seen piece part more : List ℕ) (used : ℕ) → part ≡ drop used piece → (seen ++ take used piece) ++ part ++ more ≡ seen ++ piece ++ more
-part_fault seen piece part more used is =
-    ap (λ t. t ++ more) (append_assoc seen (take used piece) part ∙ ap (λ p. seen ++ (take used piece ++ p)) is ∙ ap (λ t. seen ++ t) (take-append-drop used piece))

@@ -1,12 +1,16 @@
 -- What a reader stands for.
-use Rattle.std.specs.Prelude.{ℕ, ◌≡◌, ◌≤◌, List, [], ◌∷◌, ◌++◌, length, true, Option, Some, None, Ok}
+use Rattle.std.specs.Prelude.{ℕ, ◌≡◌, ◌≤◌, ◌+◌, Bool, false, List, length, Option, None, Result, Ok, Err}
 use Rattle.lumos_base.specs.declared.records.Edge.{Edge}
-use Rattle.edge_text.specs.Text.{is_number, line_edge, lines_of, rest_of, value_of}
-use Rattle.edge_text.specs.Reading.{greatest_end, read_lines}
+use Rattle.edge_text.specs.Lines.{lines_of, rest_of}
+use Rattle.edge_text.specs.Parts.{IsOpen}
+use Rattle.edge_text.specs.Reading.{edges_of, greatest_end, read_lines}
 use Rattle.edge_text.specs.declared.fault.TextLimits.{TextLimits}
 use Rattle.edge_text.specs.declared.fault.TextFault.{TextFault}
-use Rattle.edge_text.specs.declared.part.LinePart.{LinePart}
-use Rattle.edge_text.specs.declared.part.LinePart.TheVariants.{Bad, First, Second}
+use Rattle.edge_text.specs.declared.part.Fields.TheVariants.{Good}
+use Rattle.edge_text.specs.declared.part.GoodFields.TheVariants.{Nothing}
+use Rattle.edge_text.specs.declared.part.LinePart.TheVariants.{Between}
+use Rattle.edge_text.specs.declared.part.OpenLine.{OpenLine}
+use Rattle.edge_text.specs.declared.plain.PlainRun.{PlainRun}
 
 -- a reader, as contracts see it
 pub record ReaderState : Type 0 where
@@ -15,19 +19,8 @@ pub record ReaderState : Type 0 where
   pub lines : ℕ
   pub edges : ℕ
   pub greatest : Option ℕ
-  pub part : LinePart
+  pub line : OpenLine
   pub fault : Option TextFault
-
--- the digits of a field so far, and their number
-abbrev pub IsField : ℕ → Option ℕ → List ℕ → Type 0
-IsField max None digits = digits ≡ []
-IsField max (Some n) digits = (is_number digits ≡ true) × (value_of digits ≡ n) × (n ≤ max)
-
--- what is kept of the bytes of a line that hasn't ended
-abbrev pub IsPart : ℕ → LinePart → List ℕ → Type 0
-IsPart max Bad bytes = (more : List ℕ) → line_edge max (bytes ++ more) ≡ None
-IsPart max (First field) bytes = IsField max field bytes
-IsPart max (Second source field) bytes = (before after : List ℕ) × (bytes ≡ before ++ 32 ∷ after) × IsField max (Some source) before × IsField max field after
 
 -- The reader has taken these bytes and made these edges, and found no fault in them.
 pub record HasRead (seen : List ℕ) (edges : List Edge) (reader : ReaderState) : Type 0 where
@@ -37,15 +30,14 @@ pub record HasRead (seen : List ℕ) (edges : List Edge) (reader : ReaderState) 
   pub made : read_lines reader.limits 0 0 (lines_of seen) ≡ Ok edges
   pub count : reader.edges ≡ length edges
   pub greatest : reader.greatest ≡ greatest_end edges
-  pub part : IsPart reader.limits.max_vertex reader.part (rest_of seen)
+  pub line : IsOpen reader.limits reader.line (rest_of seen)
   pub fault : reader.fault ≡ None
 
--- no number is above the greatest vertex
-abbrev pub FieldFits : ℕ → Option ℕ → Type 0
-FieldFits max None = Unit {0}
-FieldFits max (Some n) = n ≤ max
+-- the edges that are made of a line's edge, if it has no fault
+abbrev pub edges_or_fault : Bool → Result (Option Edge) TextFault → Result (List Edge) TextFault
+edges_or_fault both (Err fault) = Err fault
+edges_or_fault both (Ok edge) = Ok (edges_of both edge)
 
-abbrev pub PartFits : ℕ → LinePart → Type 0
-PartFits max Bad = Unit {0}
-PartFits max (First field) = FieldFits max field
-PartFits max (Second source field) = (source ≤ max) × FieldFits max field
+-- a reader at a line's start, behind a run of plain lines that began after so many bytes
+abbrev pub run_state : TextLimits → ℕ → PlainRun → ReaderState
+run_state limits bytes run = record { limits = limits; bytes = bytes + run.used; lines = run.lines; edges = run.edges; greatest = run.greatest; line = record { part = Between (Good Nothing); returned = false }; fault = None }

@@ -1,20 +1,22 @@
 // The reader.
-ghost use Rattle.std.specs.Prelude.{◌≡◌, ◌≤◌, ◌<◌, ◌⊎◌, ◌+◌, ◌++◌, ◌∷◌, [], ℕ, List, length, take, IfErr, IfOk, MatchResult, None, Some, Ok, Err, false, option_to_list};
+ghost use Rattle.std.specs.Prelude.{◌≡◌, ◌≤◌, ◌<◌, ◌⊎◌, ◌+◌, ◌++◌, ◌∷◌, [], ℕ, Bool, List, length, take, IfErr, IfOk, IfSome, MatchResult, None, Some, Ok, Err};
 ghost use Rattle.lumos_base.specs.declared.records.Edge.{Edge};
 ghost use Rattle.edge_text.specs.declared.fault.TextFault.{TextFault};
-ghost use Rattle.edge_text.specs.Reader.{HasRead};
-ghost use Rattle.edge_text.specs.Reading.{greatest_end, line_of, reading};
+ghost use Rattle.edge_text.specs.Lines.{lines_of, rest_of};
+ghost use Rattle.edge_text.specs.Reader.{HasRead, edges_or_fault};
+ghost use Rattle.edge_text.specs.Reading.{edges_of, greatest_end, line_edge, line_of, listed, reading};
 
-use crate::part::{LinePart, edge_of, is_nothing, part_with};
+use crate::edges::{count_of, greatest_with, put_edges};
+use crate::part::{FRESH, OpenLine, is_fresh, line_end, run_of};
+use crate::plain::{PlainRun, plain_lines};
 use crate::{Fed, InputFault, InputWhat, TextEnd, TextFault, TextLimits};
 use lumos_base::Edge;
 use std::marker::Model;
 
-/// Reads the text of an edge list in pieces, however it is cut, and keeps no line. In this first form a line is a
-/// number, one space and a number, as in SNAP's lists without their comments.
+/// Reads the text of an edge list, in the form of SNAP's lists, in any pieces. It keeps no line, and takes no memory.
 ///
-/// Its contracts speak of `HasRead seen edges reader`: it has taken the bytes `seen`, has made the edges `edges` of
-/// the whole lines among them, and has found no fault there.
+/// A line is two vertices and, where it has one, a weight, with spaces or tabs between; it may be blank, or a comment
+/// that begins with `#` or `%`, and a carriage return may stand before its line feed.
 #[derive(Drop)]
 pub struct EdgeReader {
     limits: TextLimits,
@@ -22,70 +24,57 @@ pub struct EdgeReader {
     lines: u64,
     edges: u64,
     greatest: Option<u32>,
-    part: LinePart,
+    line: OpenLine,
     fault: Option<TextFault>,
 }
 
 impl Model for EdgeReader {
     ghost use Rattle.std.specs.Prelude.{◌≤◌};
-    ghost use Rattle.edge_text.specs.Reader.{PartFits, ReaderState};
+    ghost use Rattle.edge_text.specs.Reader.{ReaderState};
 
     ghost Value = { ReaderState };
 
-    ghost view = { λ r. record { limits = r.limits; bytes = r.bytes; lines = r.lines; edges = r.edges; greatest = r.greatest; part = r.part; fault = r.fault } };
+    ghost view = { λ r. record { limits = r.limits; bytes = r.bytes; lines = r.lines; edges = r.edges; greatest = r.greatest; line = r.line; fault = r.fault } };
 
     ghost invariant = { λ r. (r.limits.max_vertex ≤ 268435455) × (r.limits.max_edges ≤ 2147483648) × (r.limits.max_bytes ≤ 1099511627776)
-        × (r.bytes ≤ r.limits.max_bytes) × (r.lines ≤ r.bytes) × (r.edges ≤ r.limits.max_edges) × PartFits r.limits.max_vertex r.part };
+        × (r.bytes ≤ r.limits.max_bytes) × (r.lines ≤ r.bytes) × (r.edges ≤ r.limits.max_edges) };
 }
 
-// The edge of a line, or its fault.
+// The edge of a line if its edges don't pass the limit, or the line's fault.
 fn line_result(
     limits: &TextLimits,
     lines: u64,
     edges: u64,
-    edge: Option<Edge>,
-) -> Result<Edge, TextFault>
-    requires { lines < 1099511627776 }
-    ensures value { result ≡ line_of limits.now lines edges edge }
-    ensures below { IfOk result (λ _. edges < limits.now.max_edges) }
+    what: Result<Option<Edge>, InputWhat>,
+) -> Result<Option<Edge>, TextFault>
+    requires lines { lines < 1099511627777 }
+    requires edges { edges ≤ 2147483648 }
+    ensures value { line_of limits.now lines edges what ≡ edges_or_fault limits.now.both result }
+    ensures fits { IfOk result (λ edge. edges + length (edges_of limits.now.both edge) ≤ limits.now.max_edges) }
 {
-    let Some(edge) = edge else {
-        return Err(TextFault::Input(InputFault {
-            line: lines + 1,
-            what: InputWhat::NotBuilt,
-        }));
-    };
-    if edges < limits.max_edges {
-        Ok(edge)
-    } else {
-        Err(TextFault::TooManyEdges {
-            limit: limits.max_edges,
-        })
-    }
-}
-
-// Puts an edge behind so many.
-fn put_edge(edges_out: &mut [Edge], made: usize, edge: Option<Edge>) -> usize
-    requires { made < length edges_out.old }
-    ensures below { result ≤ made + 1 }
-    ensures edges { take result edges_out.new ≡ take made edges_out.old ++ option_to_list edge }
-{
-    match edge {
-        None => made,
-        Some(edge) => {
-            edges_out[made] = edge;
-            made + 1
+    match what {
+        Ok(edge) => {
+            if edges + count_of(limits.both, edge) > limits.max_edges {
+                Err(TextFault::TooManyEdges {
+                    limit: limits.max_edges,
+                })
+            } else {
+                Ok(edge)
+            }
         }
+        Err(what) => Err(TextFault::Input(InputFault {
+            line: lines + 1,
+            what,
+        })),
     }
 }
 
 impl EdgeReader {
-    /// A reader that has read nothing. A vertex is at most 268435455, the edges are at most 2147483648 and the bytes
-    /// at most 1099511627776; it takes no stated number of vertices, and each line makes one edge.
+    /// A reader that has read nothing, for these limits: a greatest vertex of at most 268435455, at most 268435456
+    /// stated vertices, 2147483648 edges and 1099511627776 bytes, which are the limits of this project's grids.
     pub fn new(limits: TextLimits) -> EdgeReader
         requires vertex { limits.max_vertex ≤ 268435455 }
-        requires vertices { limits.vertices ≡ None }
-        requires both { limits.both ≡ false }
+        requires vertices { IfSome limits.vertices (λ vertices. vertices ≤ 268435456) }
         requires edges { limits.max_edges ≤ 2147483648 }
         requires bytes { limits.max_bytes ≤ 1099511627776 }
         ensures read { HasRead [] [] result }
@@ -98,43 +87,41 @@ impl EdgeReader {
             lines: 0,
             edges: 0,
             greatest: None,
-            part: LinePart::First(None),
+            line: FRESH,
             fault: None,
         }
     }
 
-    // Takes one byte.
-    fn take_byte(&mut self, byte: u8) -> Result<Option<Edge>, TextFault>
-        ensures reads { (seen : List ℕ) (edges : List Edge) → HasRead seen edges self.old
-            → MatchResult result (λ made. HasRead (seen ++ byte ∷ []) (edges ++ option_to_list made) self.new)
-            (λ fault. (more : List ℕ) → reading self.old.limits (seen ++ byte ∷ more) ≡ Err fault) }
+    // Ends a line with these last bytes, its line feed among them, by what it means, and puts its edges behind so
+    // many others.
+    fn end_line(
+        &mut self,
+        used: usize,
+        what: Result<Option<Edge>, InputWhat>,
+        edges_out: &mut [Edge],
+        made: usize,
+    ) -> Result<Fed, TextFault>
+        requires some { 0 < used }
+        requires room { self.old.bytes + used ≤ self.old.limits.max_bytes }
+        requires places { made + 2 ≤ length edges_out.old }
+        ensures reads { (seen bytes : List ℕ) (edges : List Edge) → HasRead seen (edges ++ take made edges_out.old) self.old → used ≡ length bytes + 1 → lines_of bytes ≡ [] → what ≡ line_edge self.old.limits (rest_of seen ++ bytes)
+            → MatchResult result (λ fed. HasRead (seen ++ (bytes ++ 10 ∷ [])) (edges ++ take fed.made edges_out.new) self.new)
+            (λ fault. (more : List ℕ) → reading self.old.limits (seen ++ (bytes ++ 10 ∷ more)) ≡ Err fault) }
+        ensures within { IfOk result (λ fed. (fed.used ≡ used) × (fed.made ≤ length edges_out.new)) }
         ensures kept { IfErr result (λ fault. self.new.fault ≡ Some fault) }
         ensures limits { self.new.limits ≡ self.old.limits }
-        ensures counts { IfOk result (λ _. (self.new.bytes ≡ self.old.bytes + 1) × (self.new.bytes ≤ self.new.limits.max_bytes)) }
+        ensures counts { IfOk result (λ _. self.new.bytes ≡ self.old.bytes + used) }
     {
-        if self.bytes == self.limits.max_bytes {
-            let fault = TextFault::InputTooLong {
-                limit: self.limits.max_bytes,
-            };
-            self.fault = Some(fault);
-            return Err(fault);
-        }
-        self.bytes += 1;
-        if byte != b'\n' {
-            self.part = part_with(self.part, byte, self.limits.max_vertex);
-            return Ok(None);
-        }
-        match line_result(&self.limits, self.lines, self.edges, edge_of(self.part)) {
+        match line_result(&self.limits, self.lines, self.edges, what) {
             Ok(edge) => {
+                let both = self.limits.both;
+                self.bytes += used as u64;
                 self.lines += 1;
-                self.edges += 1;
-                self.greatest = Some(
-                    self.greatest
-                        .unwrap_or(0)
-                        .max(edge.source.0.max(edge.target.0)),
-                );
-                self.part = LinePart::First(None);
-                Ok(Some(edge))
+                self.edges += count_of(both, edge);
+                self.greatest = greatest_with(self.greatest, edge);
+                self.line = FRESH;
+                let made = put_edges(edges_out, made, both, edge);
+                Ok(Fed { used, made })
             }
             Err(fault) => {
                 self.fault = Some(fault);
@@ -143,18 +130,137 @@ impl EdgeReader {
         }
     }
 
-    /// Takes bytes of a piece until it ends or fewer than two places are free, of at least two that it is given. It
-    /// answers how many bytes it took and how many edges of whole lines it made.
+    // Takes the plain lines at the front of a text, if it stands at a line's start, and puts their edges behind so
+    // many others.
+    fn take_plain(&mut self, text: &[u8], edges_out: &mut [Edge], made: usize) -> Fed
+        requires room { self.old.bytes + length text.now ≤ self.old.limits.max_bytes }
+        requires places { made + 2 ≤ length edges_out.old }
+        ensures reads { (seen : List ℕ) (edges : List Edge) → HasRead seen (edges ++ take made edges_out.old) self.old
+            → HasRead (seen ++ take result.used text.now) (edges ++ take result.made edges_out.new) self.new }
+        ensures within { result.used ≤ length text.now }
+        ensures places { result.made ≤ length edges_out.new }
+        ensures idle { result.used ≡ 0 → result.made ≡ made }
+        ensures limits { self.new.limits ≡ self.old.limits }
+        ensures counts { self.new.bytes ≡ self.old.bytes + result.used }
+    {
+        if !is_fresh(self.line) {
+            return Fed { used: 0, made };
+        }
+        let start = PlainRun {
+            used: 0,
+            made,
+            lines: self.lines,
+            edges: self.edges,
+            greatest: self.greatest,
+        };
+        let run = plain_lines(&self.limits, text, edges_out, start);
+        self.bytes += run.used as u64;
+        self.lines = run.lines;
+        self.edges = run.edges;
+        self.greatest = run.greatest;
+        Fed {
+            used: run.used,
+            made: run.made,
+        }
+    }
+
+    // Takes the bytes of a text up to the end of its first line, or all, and puts its edges behind so many others.
+    fn take_line(
+        &mut self,
+        text: &[u8],
+        edges_out: &mut [Edge],
+        made: usize,
+    ) -> Result<Fed, TextFault>
+        requires some { 0 < length text.now }
+        requires room { self.old.bytes + length text.now ≤ self.old.limits.max_bytes }
+        requires places { made + 2 ≤ length edges_out.old }
+        ensures reads { (seen : List ℕ) (edges : List Edge) → HasRead seen (edges ++ take made edges_out.old) self.old
+            → MatchResult result (λ fed. HasRead (seen ++ take fed.used text.now) (edges ++ take fed.made edges_out.new) self.new)
+            (λ fault. (more : List ℕ) → reading self.old.limits (seen ++ (text.now ++ more)) ≡ Err fault) }
+        ensures within { IfOk result (λ fed. (0 < fed.used) × (fed.used ≤ length text.now) × (fed.made ≤ length edges_out.new)) }
+        ensures kept { IfErr result (λ fault. self.new.fault ≡ Some fault) }
+        ensures limits { self.new.limits ≡ self.old.limits }
+        ensures counts { IfOk result (λ fed. self.new.bytes ≡ self.old.bytes + fed.used) }
+    {
+        let line = self.line;
+        let run = run_of(&self.limits, line, text);
+        if run.used == text.len() {
+            self.bytes += run.used as u64;
+            self.line = run.line;
+            return Ok(Fed {
+                used: run.used,
+                made,
+            });
+        }
+        let what = line_end(&self.limits, run.line);
+        self.end_line(run.used + 1, what, edges_out, made)
+    }
+
+    // Takes plain lines, or else one line.
+    fn take_some(
+        &mut self,
+        text: &[u8],
+        edges_out: &mut [Edge],
+        made: usize,
+    ) -> Result<Fed, TextFault>
+        requires some { 0 < length text.now }
+        requires room { self.old.bytes + length text.now ≤ self.old.limits.max_bytes }
+        requires places { made + 2 ≤ length edges_out.old }
+        ensures reads { (seen : List ℕ) (edges : List Edge) → HasRead seen (edges ++ take made edges_out.old) self.old
+            → MatchResult result (λ fed. HasRead (seen ++ take fed.used text.now) (edges ++ take fed.made edges_out.new) self.new)
+            (λ fault. (more : List ℕ) → reading self.old.limits (seen ++ (text.now ++ more)) ≡ Err fault) }
+        ensures within { IfOk result (λ fed. (0 < fed.used) × (fed.used ≤ length text.now) × (fed.made ≤ length edges_out.new)) }
+        ensures kept { IfErr result (λ fault. self.new.fault ≡ Some fault) }
+        ensures limits { self.new.limits ≡ self.old.limits }
+        ensures counts { IfOk result (λ fed. self.new.bytes ≡ self.old.bytes + fed.used) }
+    {
+        let fed = self.take_plain(text, edges_out, made);
+        if fed.used > 0 {
+            return Ok(fed);
+        }
+        self.take_line(text, edges_out, fed.made)
+    }
+
+    // Takes the lines of a text until it ends, or fewer than two places are free.
+    fn take_lines(&mut self, text: &[u8], edges_out: &mut [Edge]) -> Result<Fed, TextFault>
+        requires { self.old.bytes + length text.now ≤ self.old.limits.max_bytes }
+        ensures reads { (seen : List ℕ) (edges : List Edge) → HasRead seen edges self.old
+            → MatchResult result (λ fed. HasRead (seen ++ take fed.used text.now) (edges ++ take fed.made edges_out.new) self.new)
+            (λ fault. (more : List ℕ) → reading self.old.limits (seen ++ text.now ++ more) ≡ Err fault) }
+        ensures within { IfOk result (λ fed. (fed.used ≤ length text.now) × (fed.made ≤ length edges_out.new)) }
+        ensures stops { IfOk result (λ fed. (fed.used ≡ length text.now) ⊎ (length edges_out.new < fed.made + 2)) }
+        ensures progress { IfOk result (λ fed. 0 < length text.now → 2 ≤ length edges_out.new → 0 < fed.used) }
+        ensures start { IfOk result (λ fed. fed.used ≡ 0 → fed.made ≡ 0) }
+        ensures kept { IfErr result (λ fault. self.new.fault ≡ Some fault) }
+        ensures limits { self.new.limits ≡ self.old.limits }
+        ensures counts { IfOk result (λ fed. self.new.bytes ≡ self.old.bytes + fed.used) }
+    {
+        let mut made = 0;
+        let mut used = 0;
+        while used < text.len() && made + 2 <= edges_out.len() {
+            match self.take_some(&text[used..], edges_out, made) {
+                Ok(fed) => {
+                    made = fed.made;
+                    used += fed.used;
+                }
+                Err(fault) => return Err(fault),
+            }
+        }
+        Ok(Fed { used, made })
+    }
+
+    /// Takes bytes of a piece until it ends, or fewer than two places are free in `edges_out`, which needs two at
+    /// least. The edges made so far are those of the whole lines taken so far; this call's are the first `made` of
+    /// `edges_out`.
     ///
-    /// `Input` comes exactly at the first line that is no edge, `TooManyEdges` at the first good line that would make
-    /// an edge too many, both when the line's end was read, and `InputTooLong` at the first byte too many, before
-    /// anything else is done with it. After a fault each later call answers the same one.
+    /// Its faults are the text's, whatever comes behind the piece: `Input` and `TooManyEdges` when the end of such
+    /// a line was read, and `InputTooLong` at the byte behind the limit. After a fault each later call answers it.
     pub fn feed(&mut self, piece: &[u8], edges_out: &mut [Edge]) -> Result<Fed, TextFault>
         requires { 2 ≤ length edges_out.old }
         ensures reads { (seen : List ℕ) (edges : List Edge) → HasRead seen edges self.old
             → MatchResult result (λ fed. HasRead (seen ++ take fed.used piece.now) (edges ++ take fed.made edges_out.new) self.new)
             (λ fault. (more : List ℕ) → reading self.old.limits (seen ++ piece.now ++ more) ≡ Err fault) }
-        ensures within { IfOk result (λ fed. (fed.used ≤ length piece.now) × (fed.made ≤ length edges_out.new) × (fed.made ≤ fed.used)) }
+        ensures within { IfOk result (λ fed. (fed.used ≤ length piece.now) × (fed.made ≤ length edges_out.new)) }
         ensures stops { IfOk result (λ fed. (fed.used ≡ length piece.now) ⊎ (length edges_out.new < fed.made + 2)) }
         ensures progress { IfOk result (λ fed. 0 < length piece.now → 0 < fed.used) }
         ensures again { (fault : TextFault) → self.old.fault ≡ Some fault → (result ≡ Err fault) × (self.new ≡ self.old) }
@@ -165,43 +271,54 @@ impl EdgeReader {
         if let Some(fault) = self.fault {
             return Err(fault);
         }
-        let mut made = 0;
-        let mut used = 0;
-        while used < piece.len() && made + 2 <= edges_out.len() {
-            match self.take_byte(piece[used]) {
-                Ok(edge) => made = put_edge(edges_out, made, edge),
-                Err(fault) => return Err(fault),
-            }
-            used += 1;
+        let room = self.limits.max_bytes - self.bytes;
+        if piece.len() as u64 <= room {
+            return self.take_lines(piece, edges_out);
         }
-        Ok(Fed { used, made })
+        let room = room as usize;
+        match self.take_lines(&piece[..room], edges_out) {
+            Ok(fed) => {
+                if fed.used < room {
+                    return Ok(fed);
+                }
+                if fed.made + 2 > edges_out.len() {
+                    return Ok(fed);
+                }
+                let fault = TextFault::InputTooLong {
+                    limit: self.limits.max_bytes,
+                };
+                self.fault = Some(fault);
+                Err(fault)
+            }
+            Err(fault) => Err(fault),
+        }
     }
 
-    /// Ends the text, whose last line has to have ended: else it is `Input`, a line that is no edge. It answers the
-    /// number of edges and their greatest vertex, where there is one. A fault that was found stands.
+    /// Ends the text, whose last line may lack a line feed, and makes the edges of that line, for which two places
+    /// are needed. It answers how many edges there are in all and their greatest end.
+    ///
+    /// Its faults are those of the whole text: that of its last line, or the one that an earlier call answered.
     pub fn finish(self, edges_out: &mut [Edge]) -> Result<TextEnd, TextFault>
         requires { 2 ≤ length edges_out.old }
         ensures reads { (seen : List ℕ) (edges : List Edge) → HasRead seen edges self
-            → MatchResult result (λ end. (reading self.limits seen ≡ Ok (edges ++ take end.made edges_out.new))
+            → MatchResult result (λ end. (reading self.limits seen ≡ Ok (listed self.limits (edges ++ take end.made edges_out.new)))
             × (end.edges ≡ length (edges ++ take end.made edges_out.new))
             × (end.greatest ≡ greatest_end (edges ++ take end.made edges_out.new)))
             (λ fault. reading self.limits seen ≡ Err fault) }
-        ensures within { IfOk result (λ end. end.made ≤ length edges_out.new) }
+        ensures within { IfOk result (λ end. (end.made ≤ length edges_out.new) × (end.edges ≤ self.limits.max_edges)) }
         ensures again { (fault : TextFault) → self.fault ≡ Some fault → result ≡ Err fault }
     {
         if let Some(fault) = self.fault {
             return Err(fault);
         }
-        if !is_nothing(self.part) {
-            return Err(TextFault::Input(InputFault {
-                line: self.lines + 1,
-                what: InputWhat::NotBuilt,
-            }));
+        let what = line_end(&self.limits, self.line);
+        match line_result(&self.limits, self.lines, self.edges, what) {
+            Ok(edge) => Ok(TextEnd {
+                made: put_edges(edges_out, 0, self.limits.both, edge),
+                edges: self.edges + count_of(self.limits.both, edge),
+                greatest: greatest_with(self.greatest, edge),
+            }),
+            Err(fault) => Err(fault),
         }
-        Ok(TextEnd {
-            made: 0,
-            edges: self.edges,
-            greatest: self.greatest,
-        })
     }
 }

@@ -1,2 +1,3 @@
+pub mod FileKinds
 pub mod Pieces
 pub mod Written

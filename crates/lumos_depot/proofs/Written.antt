@@ -1,7 +1,7 @@
 -- One write after another.
-use Rattle.std.proofs.Common.{◌≡◌, ℕ, ◌+◌, ◌≤◌, List, ◌++◌, length, take, min, Option, Some, None, Result, Ok, Err, IsOk, refl, sym, ◌∙◌, ap, arith}
+use Rattle.std.proofs.Common.{◌≡◌, ℕ, ◌+◌, List, ◌++◌, length, take, min, Option, Some, None, Result, Ok, Err, IsOk, refl, sym, ◌∙◌, ap, arith}
 use Rattle.std.proofs.Math.Seq.{take-append-add}
-use Rattle.std.proofs.lemmas.List.{append_assoc, length-take, take_all, take-append-le, take_min, append-nil}
+use Rattle.std.proofs.lemmas.List.{append_assoc, take_all, take-append-le, take_min, append-nil}
 use Rattle.lumos_depot.specs.Streams.{AppendsFront, Writes, after_told}
 
 pub after_told-after : (old : Option (List ℕ)) (a b : List ℕ) → after_told (after_told old a) b ≡ after_told old (a ++ b)

@@ -1,5 +1,5 @@
 -- What a read takes from a source and a write puts into a sink, where these tell what they hold.
-use Rattle.std.specs.Prelude.{◌≡◌, ◌≤◌, ℕ, List, [], ◌++◌, length, take, Option, Some, Result, MatchResult, OnOk}
+use Rattle.std.specs.Prelude.{◌≡◌, ℕ, List, [], ◌++◌, take, Option, Some, Result, MatchResult, OnOk}
 use Rattle.std.specs.Option.{option_map}
 
 -- the bytes in front of those that are told

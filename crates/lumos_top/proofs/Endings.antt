@@ -1,28 +1,55 @@
 -- How the reading of a source ends.
-use Rattle.std.proofs.Common.{◌≡◌, ℕ, List, ◌++◌, Option, Some, None, Err, sym, ap, ◌∙◌, refl}
-use Rattle.std.proofs.lemmas.List.{append_assoc}
+use Rattle.std.proofs.Common.{◌≡◌, ℕ, List, [], ◌++◌, Option, Some, None, Result, Ok, Err, sym, ap, ◌∙◌, refl}
+use Rattle.std.proofs.lemmas.List.{append_assoc, append-nil}
+use Rattle.std.specs.Prelude.{unwrap_or}
 use Rattle.lumos_base.specs.declared.records.Edge.{Edge}
-use Rattle.lumos_depot.specs.Streams.{before_told}
+use Rattle.lumos_depot.specs.Streams.{Takes, before_told}
 use Rattle.edge_text.specs.Reader.{ReaderState}
 use Rattle.edge_text.specs.Reading.{reading}
 use Rattle.edge_text.specs.declared.fault.TextLimits.{TextLimits}
-use Rattle.lumos_top.specs.Listing.{ListEnds, PieceEnds}
+use Rattle.lumos_top.specs.Listing.{EndReads, HasListed, HasPiece, IsAtEnd}
+use Rattle.lumos_top.specs.declared.list.EdgeList.{EdgeList}
 use Rattle.lumos_top.specs.declared.list.ListStop.{ListStop}
 use Rattle.lumos_top.specs.declared.list.ListStop.TheVariants.{Memory, Read, Text}
 
--- what is left behind what was seen, and a piece
-pub record Parts (bytes seen piece : List ℕ) : Type 0 where
-  pub left : List ℕ
-  pub all : bytes ≡ seen ++ piece ++ left
+-- one piece after another
+pub takes_then : (old mid new : Option (List ℕ)) (seen piece : List ℕ) → Takes old mid seen → Takes mid new piece → Takes old new (seen ++ piece)
+takes_then old mid None seen piece first second = first ∙ ap (before_told seen) second
+takes_then old mid (Some left) seen piece first second = first ∙ ap (before_told seen) second ∙ ap Some (sym (append_assoc seen piece left))
 
-pub told_parts : (new : Option (List ℕ)) (bytes seen piece : List ℕ) → before_told seen (before_told piece new) ≡ Some bytes → Parts bytes seen piece
-told_parts None bytes seen piece h = absurd (cc)
-told_parts (Some left) bytes seen piece h = record { left = left; all = let e : seen ++ (piece ++ left) ≡ bytes = cc in sym e ∙ sym (append_assoc seen piece left) }
+-- what was taken, and what is left where that is told, are all the bytes
+taken_all : (old new : Option (List ℕ)) (seen all : List ℕ) → Takes old new seen → old ≡ Some all → seen ++ unwrap_or new [] ≡ all
+taken_all old None seen all takes told = absurd (let h : None ≡ Some all = sym takes ∙ told in cc)
+taken_all old (Some left) seen all takes told = let h : Some (seen ++ left) ≡ Some all = sym takes ∙ told in cc
 
-pub list_stop : (limits : TextLimits) (bytes seen : List ℕ) (start old new : Option (List ℕ)) (stop : ListStop) (edges : List Edge) (reader : ReaderState) →
-  start ≡ before_told seen old → start ≡ Some bytes → reader.limits ≡ limits → PieceEnds seen edges reader old new (Err stop) → ListEnds limits bytes new (Err stop)
-list_stop limits bytes seen start old new Memory edges reader is told same h = tt
-list_stop limits bytes seen start old new Read edges reader is told same h = tt
-list_stop limits bytes seen start old new (Text fault) edges reader is told same h =
-    let p = told_parts new bytes seen h.piece (ap (before_told seen) (sym h.taken) ∙ sym is ∙ told) in
-    ap (λ l. reading l bytes) (sym same) ∙ ap (reading reader.limits) p.all ∙ h.reads p.left
+-- a piece after what was seen stopped it
+pub list_stop : (limits : TextLimits) (seen : List ℕ) (old mid new : Option (List ℕ)) (stop : ListStop) (edges : List Edge) (reader : ReaderState) →
+    Takes old mid seen → reader.limits ≡ limits → HasPiece seen edges reader mid new (Err stop) → HasListed limits old new (Err stop)
+list_stop limits seen old mid new Memory edges reader takes same h =
+    record { bytes = (seen ++ h.piece) ++ unwrap_or new []; told = λ all told. taken_all old new (seen ++ h.piece) all (takes_then old mid new seen h.piece takes h.takes) told; reads = tt }
+list_stop limits seen old mid new Read edges reader takes same h =
+    record { bytes = (seen ++ h.piece) ++ unwrap_or new []; told = λ all told. taken_all old new (seen ++ h.piece) all (takes_then old mid new seen h.piece takes h.takes) told; reads = tt }
+list_stop limits seen old mid new (Text fault) edges reader takes same h =
+    record {
+      bytes = (seen ++ h.piece) ++ unwrap_or new [];
+      told = λ all told. taken_all old new (seen ++ h.piece) all (takes_then old mid new seen h.piece takes h.takes) told;
+      reads = ap (λ l. reading l ((seen ++ h.piece) ++ unwrap_or new [])) (sym same) ∙ h.ends (unwrap_or new []);
+    }
+
+at_end : (old new : Option (List ℕ)) (seen all : List ℕ) → Takes old new seen → IsAtEnd new → old ≡ Some all → (new ≡ Some []) × (seen ≡ all)
+at_end old None seen all takes end told = absurd (let h : None ≡ Some all = sym takes ∙ told in cc)
+at_end old (Some left) seen all takes end told =
+    let none : left ≡ [] = end left refl in
+    let h : Some (seen ++ left) ≡ Some all = sym takes ∙ told in
+    let same : seen ++ left ≡ all = cc in
+    (ap Some none, sym (append-nil seen) ∙ ap (λ l. seen ++ l) (sym none) ∙ same)
+
+-- all was taken, and the end was read
+pub list_end : (limits was : TextLimits) (seen : List ℕ) (old new : Option (List ℕ)) (result : Result EdgeList ListStop) → was ≡ limits → Takes old new seen → IsAtEnd new → EndReads was seen result → HasListed limits old new result
+list_end limits was seen old new (Ok edges) same takes end h =
+    record { bytes = seen; told = λ all told. (at_end old new seen all takes end told).1; reads = (ap (λ l. reading l seen) (sym same) ∙ h, λ told. (at_end old new seen seen takes end told).0) }
+list_end limits was seen old new (Err (Text fault)) same takes end h =
+    record { bytes = seen; told = λ all told. (at_end old new seen all takes end told).1; reads = ap (λ l. reading l seen) (sym same) ∙ h }
+list_end limits was seen old new (Err Memory) same takes end h =
+    record { bytes = seen; told = λ all told. (at_end old new seen all takes end told).1; reads = tt }
+list_end limits was seen old new (Err Read) same takes end h = absurd h

@@ -1,37 +1,59 @@
 -- How the reading of a source ends.
-use Rattle.std.specs.Prelude.{◌≡◌, ℕ, List, [], ◌++◌, Bool, true, false, Option, Some, Result, Ok, Err, Vec}
-use Rattle.std.specs.declared.alloc.Global.{Global}
+use Rattle.std.specs.Prelude.{◌≡◌, ℕ, List, [], ◌++◌, Bool, false, Option, Some, Result, Ok, Err}
 use Rattle.lumos_base.specs.declared.records.Edge.{Edge}
-use Rattle.lumos_depot.specs.Streams.{before_told}
+use Rattle.lumos_depot.specs.Streams.{Takes}
 use Rattle.edge_text.specs.Reader.{HasRead, ReaderState}
-use Rattle.edge_text.specs.Reading.{reading}
+use Rattle.edge_text.specs.Reading.{Listed, reading}
 use Rattle.edge_text.specs.declared.fault.TextLimits.{TextLimits}
-use Rattle.edge_text.specs.declared.fault.TextFault.{TextFault}
+use Rattle.lumos_top.specs.declared.list.EdgeList.{EdgeList}
 use Rattle.lumos_top.specs.declared.list.ListStop.{ListStop}
 use Rattle.lumos_top.specs.declared.list.ListStop.TheVariants.{Memory, Read, Text}
+use Rattle.lumos_top.specs.declared.list.PieceStop.{PieceStop}
+use Rattle.lumos_top.specs.declared.list.PieceStop.TheVariants as stop
 
--- A piece was taken from the source and read; there is no more only at the end of what is told.
-pub record HasMore (seen : List ℕ) (edges : List Edge) (reader : ReaderState) (old new : Option (List ℕ)) (more : Bool) : Type 0 where
+-- nothing is left, where that is told
+abbrev pub IsAtEnd : Option (List ℕ) → Type 0
+IsAtEnd left = (bytes : List ℕ) → left ≡ Some bytes → bytes ≡ []
+
+-- A piece was read behind what was seen; a fault stands whatever comes behind it.
+abbrev pub PieceReads : List ℕ → List ℕ → List Edge → ReaderState → Result (Unit {0}) PieceStop → Type 0
+PieceReads seen piece edges reader (Ok done) = HasRead (seen ++ piece) edges reader
+PieceReads seen piece edges reader (Err (stop.Text fault)) = (more : List ℕ) → reading reader.limits (seen ++ piece ++ more) ≡ Err fault
+PieceReads seen piece edges reader (Err stop.Memory) = Unit {0}
+
+-- What came of a piece, and whether there may be more behind it.
+abbrev pub PieceEnds : List ℕ → List ℕ → List Edge → ReaderState → Option (List ℕ) → Result Bool ListStop → Type 0
+PieceEnds seen piece edges reader left (Ok more) = HasRead (seen ++ piece) edges reader × (more ≡ false → IsAtEnd left)
+PieceEnds seen piece edges reader left (Err (Text fault)) = (more : List ℕ) → reading reader.limits (seen ++ piece ++ more) ≡ Err fault
+PieceEnds seen piece edges reader left (Err Memory) = Unit {0}
+PieceEnds seen piece edges reader left (Err Read) = Unit {0}
+
+-- A piece was taken from a source and read.
+pub record HasPiece (seen : List ℕ) (edges : List Edge) (reader : ReaderState) (old new : Option (List ℕ)) (result : Result Bool ListStop) : Type 0 where
   pub piece : List ℕ
-  pub taken : old ≡ before_told piece new
-  pub read : HasRead (seen ++ piece) edges reader
-  pub ended : more ≡ false → (left : List ℕ) → new ≡ Some left → left ≡ []
+  pub takes : Takes old new piece
+  pub ends : PieceEnds seen piece edges reader new result
 
--- A piece was taken that has a fault, whatever comes behind it.
-pub record IsFaulty (limits : TextLimits) (seen : List ℕ) (fault : TextFault) (old new : Option (List ℕ)) : Type 0 where
-  pub piece : List ℕ
-  pub taken : old ≡ before_told piece new
-  pub reads : (more : List ℕ) → reading limits (seen ++ piece ++ more) ≡ Err fault
+-- a list, as it is defined
+abbrev pub listed_of : EdgeList → Listed
+listed_of list = record { edges = list.edges.items; vertices = list.vertices }
 
-abbrev pub PieceEnds : List ℕ → List Edge → ReaderState → Option (List ℕ) → Option (List ℕ) → Result Bool ListStop → Type 0
-PieceEnds seen edges reader old new (Ok more) = HasMore seen edges reader old new more
-PieceEnds seen edges reader old new (Err (Text fault)) = IsFaulty reader.limits seen fault old new
-PieceEnds seen edges reader old new (Err Memory) = Unit {0}
-PieceEnds seen edges reader old new (Err Read) = Unit {0}
+-- The answer is that of the bytes, which were read to their end, or a fault of theirs; else the outside stopped it.
+abbrev pub ReadsAs : TextLimits → List ℕ → Option (List ℕ) → Option (List ℕ) → Result EdgeList ListStop → Type 0
+ReadsAs limits bytes old new (Ok list) = (reading limits bytes ≡ Ok (listed_of list)) × (old ≡ Some bytes → new ≡ Some [])
+ReadsAs limits bytes old new (Err (Text fault)) = reading limits bytes ≡ Err fault
+ReadsAs limits bytes old new (Err Memory) = Unit {0}
+ReadsAs limits bytes old new (Err Read) = Unit {0}
 
--- The answer is that of all the bytes that were left, which are gone, or a fault of theirs; else the outside stopped it.
-abbrev pub ListEnds : TextLimits → List ℕ → Option (List ℕ) → Result (Vec Edge Global) ListStop → Type 0
-ListEnds limits bytes left (Ok edges) = (reading limits bytes ≡ Ok edges.items) × (left ≡ Some [])
-ListEnds limits bytes left (Err (Text fault)) = reading limits bytes ≡ Err fault
-ListEnds limits bytes left (Err Memory) = Unit {0}
-ListEnds limits bytes left (Err Read) = Unit {0}
+-- There are bytes, those that were left where the source tells them, that were read as a list.
+pub record HasListed (limits : TextLimits) (old new : Option (List ℕ)) (result : Result EdgeList ListStop) : Type 0 where
+  pub bytes : List ℕ
+  pub told : (all : List ℕ) → old ≡ Some all → bytes ≡ all
+  pub reads : ReadsAs limits bytes old new result
+
+-- The end of a text was read.
+abbrev pub EndReads : TextLimits → List ℕ → Result EdgeList ListStop → Type 0
+EndReads limits seen (Ok list) = reading limits seen ≡ Ok (listed_of list)
+EndReads limits seen (Err (Text fault)) = reading limits seen ≡ Err fault
+EndReads limits seen (Err Memory) = Unit {0}
+EndReads limits seen (Err Read) = ⊥

@@ -1,5 +1,5 @@
-use Rattle.std.proofs.Common.{rules, ◌≡◌, ◌≤◌, ◌<◌, ◌-◌, [], List, ℕ, length, drop, take, Option, Some, ap, arith, ◌++◌, ◌+◌}
-use Rattle.std.proofs.lemmas.List.{nil_from_length, take_rest, length-drop}
+use Rattle.std.proofs.Common.{◌≡◌, ◌≤◌, length, drop, Some, ap, arith}
+use Rattle.std.proofs.lemmas.List.{nil_from_length, take_rest}
 use Rattle.std.proofs.lemmas.Grind.{common_steps}
 use Rattle.lumos_depot.proofs.Pieces.{split_read}
 use Rattle.lumos_depot.proofs.memory_source.MemSourceSource.read.Goals as goal

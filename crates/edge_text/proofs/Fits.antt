@@ -198,7 +198,7 @@ list_within limits edges makes =
       few = omega arith;
       within = makes.within;
       ends = ends_by limits limits.vertices edges refl makes.within;
-      few_vertices = λ most stated above. vertices_by most limits limits.vertices edges stated above makes.within
+      few_vertices = λ most stated above. vertices_by most limits limits.vertices edges stated above makes.within;
     }
 
 within_by : (limits : TextLimits) (long : Bool) (r : Result (List Edge) TextFault) (l : Listed) → ((edges : List Edge) → r ≡ Ok edges → MakesFew limits 0 edges) → reading_with limits long r ≡ Ok l → IsListWithin limits l

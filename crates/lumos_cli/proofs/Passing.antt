@@ -1,8 +1,8 @@
 -- What a buffer's range becomes, and that bytes pass through it in their order.
-use Rattle.std.proofs.Common.{◌≡◌, ℕ, ◌+◌, ◌-◌, ◌≤◌, ◌<◌, List, [], ◌++◌, length, take, drop, min, Option, Some, None, Ok, refl, sym, ◌∙◌, ap, subst, arith}
+use Rattle.std.proofs.Common.{◌≡◌, ℕ, ◌+◌, ◌-◌, ◌≤◌, ◌<◌, List, [], ◌++◌, length, take, drop, min, Option, Some, None, Ok, sym, ◌∙◌, ap, arith}
 use Rattle.std.proofs.lemmas.List.{append-nil, drop-append-le, drop-drop, drop-take, length-drop, length-take, length-take-le, take-append-drop, take_all}
 use lib.Seq.{drop-nil}
-use Rattle.std.proofs.KnownBytes.{Keeps-refl, prepend_known-read}
+use Rattle.std.proofs.KnownBytes.{prepend_known-read}
 use Rattle.std.specs.Prelude.{slice_range}
 use Rattle.std.specs.Io.KnownBytes.{Appends, Consumes, IsAtEnd, Keeps, append_known, prepend_known}
 use Rattle.lumos_cli.specs.Buffered.{AppendsSome}

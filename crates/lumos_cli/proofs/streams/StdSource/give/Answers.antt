@@ -1,4 +1,4 @@
-use Rattle.std.proofs.Common.{◌∙◌, ap, arith, rules, sym, refl}
+use Rattle.std.proofs.Common.{rules, refl}
 use Rattle.lumos_cli.proofs.Passing.{range_drop}
 use Rattle.lumos_cli.proofs.streams.StdSource.give.Goals as goal
 

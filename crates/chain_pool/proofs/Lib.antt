@@ -1,0 +1,4 @@
+pub mod ChainLemmas
+pub mod MoveLemmas
+pub mod NodeLemmas
+pub mod StartLemmas

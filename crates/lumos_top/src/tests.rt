@@ -1,6 +1,6 @@
 // Whole runs over objects in memory: printed texts, statuses and fault lines.
 use crate::{Status, lumos};
-use lumos_depot::{MemSink, MemSource};
+use lumos_depot::{MemDepot, MemSink, MemSource};
 use std::alloc::Global;
 use std::process::Abort;
 use std::test::Fail;
@@ -36,9 +36,10 @@ fn check(rt: &impl Abort, alloc: Global, row: &Row) -> Result<(), Fail> {
     let mut input = MemSource::new(alloc, row.input.as_bytes(), step, row.fails)
         .ok()
         .expect(rt, "memory");
+    let mut depot = MemDepot::new(alloc, &[]).ok().expect(rt, "memory");
     let mut out = MemSink::new(alloc, row.room, &[]).ok().expect(rt, "memory");
     let mut err = MemSink::new(alloc, 99, &[]).ok().expect(rt, "memory");
-    let status = lumos(alloc, &words, &mut input, &mut out, &mut err);
+    let status = lumos(alloc, &words, &mut input, &mut depot, &mut out, &mut err);
     assert_eq!(rt; status, row.status, "{}", row.words);
     assert_eq!(rt; out.bytes(), row.out.as_bytes(), "{}", row.words);
     assert_eq!(rt; err.bytes(), row.err.as_bytes(), "{}", row.words);

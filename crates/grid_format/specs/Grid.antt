@@ -1,0 +1,60 @@
+-- The files of a grid, from the list of its edges.
+use Rattle.std.specs.Prelude.{◌≡◌, ◌==◌, ◌<◌, ◌≤◌, ℕ, ◌*◌, List, [], map, filter, flat_map, length, sum_by, All, Ok}
+use Rattle.std.specs.List.{range_with_len}
+use Rattle.lumos_base.specs.Records.{edge_bytes, info_bytes}
+use Rattle.lumos_base.specs.declared.records.Edge.{Edge}
+use Rattle.lumos_base.specs.declared.records.OutInfo.{OutInfo}
+use Rattle.lumos_depot.specs.Files.{range_at}
+use Rattle.partition.specs.Blocks.{IsBelow, block, columns}
+use Rattle.partition.specs.Parts.{chunk_size}
+use Rattle.grid_format.specs.Checks.{GridFiles, head_of}
+use Rattle.grid_format.specs.Heads.{counts_of, meta_bytes}
+use Rattle.grid_format.specs.Tables.{BlockCounts, count_at, primary_place_of}
+use Rattle.grid_format.specs.declared.head.GridInfo.{GridInfo}
+
+-- the head of the grid of these edges over n vertices and p parts
+abbrev pub grid_head : List Edge → ℕ → ℕ → GridInfo
+grid_head edges n p = record { version = 1; parts = p; vertices = n; edges = length edges }
+
+-- the numbers of edges in its blocks, in column order
+abbrev pub block_counts : List Edge → ℕ → ℕ → List ℕ
+block_counts edges c p =
+    flat_map (λ j. map (λ i. length (block edges c i j)) (range_with_len 0 p)) (range_with_len 0 p)
+
+-- the edges that lead out of v, in list order
+abbrev pub out_edges : List Edge → ℕ → List Edge
+out_edges edges v = filter (λ e. e.source.0 == v) edges
+
+-- how many there are, and the sum of their weights
+abbrev pub leaving : List Edge → ℕ → OutInfo
+leaving edges v = record { degree = length (out_edges edges v); weight = sum_by (λ e. e.weight.0) (out_edges edges v) }
+
+-- The files of the grid of these edges over n vertices and p parts: Meta; all blocks in column order, each with its
+-- edges in list order; no secondary layout yet; what leads out of each vertex, ascending.
+abbrev pub grid : List Edge → ℕ → ℕ → GridFiles
+grid edges n p = record {
+  meta = meta_bytes (grid_head edges n p) (block_counts edges (chunk_size n p) p);
+  primary = flat_map edge_bytes (columns edges (chunk_size n p) p);
+  secondary = [];
+  info = flat_map (λ v. info_bytes (leaving edges v)) (range_with_len 0 n);
+}
+
+-- The edges and the parts are within the limits of a grid.
+pub record HasGrid (edges : List Edge) (n p : ℕ) : Type 0 where
+  pub ends : All (IsBelow n) edges
+  pub few : length edges ≤ 2147483648
+  pub vertices : n ≤ 268435456
+  pub some_parts : 0 < p
+  pub few_parts : p ≤ 256
+
+-- how many edges the blocks of the grid have
+abbrev pub grid_table : List Edge → ℕ → ℕ → BlockCounts
+grid_table edges n p = record { parts = p; counts = block_counts edges (chunk_size n p) p }
+
+-- The files of a grid pass the checks of the head, and the counts in Meta are those of its blocks, each of which stands
+-- in Primary at its place.
+pub record IsRead (edges : List Edge) (n p : ℕ) : Type 0 where
+  pub head : head_of (grid edges n p) ≡ Ok (grid_head edges n p)
+  pub counts : counts_of p (grid edges n p).meta ≡ (grid_table edges n p).counts
+  pub count : (i j : ℕ) → i < p → j < p → count_at (grid_table edges n p) i j ≡ length (block edges (chunk_size n p) i j)
+  pub place : (i j : ℕ) → i < p → j < p → range_at (primary_place_of (grid_table edges n p) i j) (12 * count_at (grid_table edges n p) i j) (grid edges n p).primary ≡ flat_map edge_bytes (block edges (chunk_size n p) i j)

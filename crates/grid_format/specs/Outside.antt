@@ -1,0 +1,64 @@
+-- What a call over a depot may answer and change.
+use Rattle.std.specs.Prelude.{◌≡◌, ◌≢◌, ◌≤◌, ◌<◌, ◌⊎◌, ⊤, ℕ, List, Option, Some, Result, Ok, Err}
+use Rattle.lumos_depot.specs.Files.{Same, SameBut}
+use Rattle.lumos_depot.specs.declared.depot.FileKind.{FileKind}
+use Rattle.lumos_depot.specs.declared.depot.FileKind.TheVariants.{Meta, Primary, Secondary, Info}
+use Rattle.grid_format.specs.Checks.{GridFiles}
+use Rattle.grid_format.specs.declared.head.GridFault.{GridFault}
+use Rattle.grid_format.specs.declared.head.GridFault.TheVariants.{NotAGrid, WrongVersion, BadLength, BadMeta, Depot}
+
+-- a depot tells its files, and these are the four of the grid
+pub record Holds (told : FileKind → Option (List ℕ)) (files : GridFiles) : Type 0 where
+  pub meta_file : told Meta ≡ Some files.meta
+  pub primary_file : told Primary ≡ Some files.primary
+  pub secondary_file : told Secondary ≡ Some files.secondary
+  pub info_file : told Info ≡ Some files.info
+
+-- The call read Meta: no file and no other count changed, and the count of faults didn't fall.
+pub record OnlyReads {D : Type 0} (h : D → FileKind → Option (List ℕ)) (t s : D → FileKind → ℕ) (f : D → ℕ) (a : D → Option (List ℕ)) (old new : D) : Type 0 where
+  pub attached : a new ≡ a old
+  pub contents : Same (h old) (h new)
+  pub taken : SameBut Meta (t old) (t new)
+  pub stored : Same (s old) (s new)
+  pub later : f old ≤ f new
+
+-- a fact that is owed where the answer is that the depot failed
+abbrev pub FaultOwes : GridFault → Type 0 → Type 0
+FaultOwes Depot fact = fact
+FaultOwes NotAGrid fact = ⊤
+FaultOwes (WrongVersion found) fact = ⊤
+FaultOwes (BadLength file want found) fact = ⊤
+FaultOwes (BadMeta place found) fact = ⊤
+
+abbrev pub DepotOwes : {A : Type 0} → Result A GridFault → Type 0 → Type 0
+DepotOwes (Ok x) fact = ⊤
+DepotOwes (Err fault) fact = FaultOwes fault fact
+
+-- the answer is the one that is wanted, but where the depot failed
+abbrev pub FaultGives : {A : Type 0} → GridFault → Result A GridFault → Type 0
+FaultGives Depot want = ⊤
+FaultGives NotAGrid want = want ≡ Err NotAGrid
+FaultGives (WrongVersion found) want = want ≡ Err (WrongVersion found)
+FaultGives (BadLength file wanted found) want = want ≡ Err (BadLength file wanted found)
+FaultGives (BadMeta place found) want = want ≡ Err (BadMeta place found)
+
+abbrev pub Gives : {A : Type 0} → Result A GridFault → Result A GridFault → Type 0
+Gives (Ok x) want = want ≡ Ok x
+Gives (Err fault) want = FaultGives fault want
+
+-- a number at a place of Meta that can't stand there in a grid
+abbrev pub IsWrongNumber : ℕ → ℕ → Type 0
+IsWrongNumber place found =
+    ((place ≡ 12) × ((found ≡ 0) ⊎ (256 < found)))
+    ⊎ ((place ≡ 16) × (268435456 < found))
+    ⊎ ((place ≡ 20) × (0 < found))
+    ⊎ ((place ≡ 24) × (0 < found))
+    ⊎ ((32 ≤ place) × (0 < found))
+
+-- what a fault carries isn't what was wanted
+abbrev pub Shows : GridFault → Type 0
+Shows Depot = ⊤
+Shows NotAGrid = ⊤
+Shows (WrongVersion found) = found ≢ 1
+Shows (BadLength file want found) = found ≢ want
+Shows (BadMeta place found) = IsWrongNumber place found

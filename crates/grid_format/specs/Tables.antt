@@ -1,0 +1,51 @@
+-- The blocks of a grid, by their numbers of edges in column order.
+use Rattle.std.specs.Prelude.{◌≡◌, ◌<◌, ◌≤◌, ◌⊎◌, ⊤, ℕ, ◌+◌, ◌*◌, List, length, sum, take, slice_index}
+use Rattle.grid_format.specs.declared.table.TableFault.{TableFault}
+use Rattle.grid_format.specs.declared.table.TableFault.TheVariants.{Depot, Damaged, NoMemory}
+
+-- how many parts there are, and how many edges each block has, in column order
+pub record BlockCounts : Type 0 where
+  pub parts : ℕ
+  pub counts : List ℕ
+
+-- how many blocks stand before block (i,j) in column order
+abbrev pub block_place : ℕ → ℕ → ℕ → ℕ
+block_place p i j = j * p + i
+
+-- how many edges block (i,j) has
+abbrev pub count_at : BlockCounts → ℕ → ℕ → ℕ
+count_at table i j = slice_index table.counts (block_place table.parts i j)
+
+-- where the block behind k others begins in Primary: twelve bytes for each of their edges
+abbrev pub place_behind : List ℕ → ℕ → ℕ
+place_behind counts k = 12 * sum (take k counts)
+
+-- where block (i,j) begins in Primary
+abbrev pub primary_place_of : BlockCounts → ℕ → ℕ → ℕ
+primary_place_of table i j = place_behind table.counts (block_place table.parts i j)
+
+-- these are the places in Primary of blocks with these numbers of edges
+pub record ArePlaces (counts places : List ℕ) : Type 0 where
+  pub same : length places ≡ length counts
+  pub each : (k : ℕ) → k < length places → slice_index places k ≡ place_behind counts k
+
+-- The table has a number and a place for each block.
+pub record IsTable (parts : ℕ) (counts places : List ℕ) : Type 0 where
+  pub blocks : length counts ≡ parts * parts
+  pub begin : ArePlaces counts places
+
+-- a fact that is owed where the depot failed
+abbrev pub OnDepotFault : TableFault → Type 0 → Type 0
+OnDepotFault Depot fact = fact
+OnDepotFault (Damaged place found) fact = ⊤
+OnDepotFault NoMemory fact = ⊤
+
+-- a fact that is owed where a number at a place of Meta doesn't fit
+abbrev pub IfDamaged : TableFault → (ℕ → ℕ → Type 0) → Type 0
+IfDamaged Depot fact = ⊤
+IfDamaged (Damaged place found) fact = fact place found
+IfDamaged NoMemory fact = ⊤
+
+-- A count that takes the total past the edges isn't 0, nor is a number of edges that the total doesn't reach.
+abbrev pub IsWrongCount : ℕ → ℕ → ℕ → Type 0
+IsWrongCount edges place found = (0 < found) × (((place ≡ 24) × (found ≡ edges)) ⊎ (32 ≤ place))

@@ -1,0 +1,227 @@
+// The table of a grid's blocks.
+ghost use Rattle.std.specs.Prelude.{◌≡◌, ◌+◌, ◌*◌, ◌^◌, ◌<◌, ◌≤◌, ◌++◌, [], ℕ, List, Some, None, Ok, Err, length, sum, IfOk, IfErr, IsSome, OnOk};
+ghost use Rattle.lumos_depot.specs.Causes.{Rose};
+ghost use Rattle.lumos_depot.specs.declared.depot.FileKind.{FileKind};
+ghost use Rattle.grid_format.specs.Checks.{GridFiles, added, counted, head_of};
+ghost use Rattle.grid_format.specs.Heads.{IsHead, counts_of, meta_length, numbers};
+ghost use Rattle.grid_format.specs.Outside.{Holds, OnlyReads};
+ghost use Rattle.grid_format.specs.Tables.{ArePlaces, IfDamaged, IsWrongCount, OnDepotFault, block_place, count_at, primary_place_of};
+
+use crate::bytes::number_of_eight;
+use crate::counts::{add_column, reach};
+use crate::head::GridInfo;
+use crate::reads::fill;
+use lumos_base::NoMemory;
+use lumos_depot::Depot;
+use std::alloc::Global;
+use std::marker::Model;
+
+/// Why the table of a grid's blocks wasn't read.
+#[derive(Clone, Copy, Debug, PartialEq, Eq, Drop)]
+pub enum TableFault {
+    /// The depot failed.
+    Depot,
+    /// The counts that were read don't add up to the edges, though they did when the head was read.
+    Damaged { place: u64, found: u64 },
+    /// Memory ran out.
+    NoMemory,
+}
+
+/// How many edges each block of a grid has, and where it begins. Contracts see the number of parts and the counts in
+/// column order.
+#[derive(Drop)]
+pub struct BlockTable {
+    parts: u32,
+    counts: Vec<u64>,
+    places: Vec<u64>,
+}
+
+impl Model for BlockTable {
+    ghost use Rattle.grid_format.specs.Tables.{BlockCounts, IsTable};
+
+    ghost Value = { BlockCounts };
+
+    ghost view = { λ t. record { parts = t.parts; counts = t.counts.items } };
+
+    ghost invariant = { λ t. IsTable t.parts t.counts.items t.places.items };
+}
+
+// Puts the counts in a column's bytes behind those that are there.
+fn push_column(counts: &mut Vec<u64>, bytes: &[u8], parts: usize) -> Result<(), NoMemory>
+    requires { length bytes.now ≡ 8 * parts }
+    ensures { OnOk result (counts.new.items ≡ counts.old.items ++ numbers 0 parts bytes.now) }
+{
+    for i in 0..parts {
+        let Ok(()) = counts.push(number_of_eight(bytes, 8 * i)) else {
+            return Err(NoMemory);
+        };
+    }
+    Ok(())
+}
+
+// Where the blocks with these numbers of edges begin in Primary.
+fn places_of(alloc: Global, counts: &[u64]) -> Result<Vec<u64>, NoMemory>
+    requires { sum counts.now ≤ 2147483648 }
+    ensures { IfOk result (λ places. ArePlaces counts.now places.items) }
+{
+    let mut total = 0;
+    let mut places = Vec::new(alloc);
+    for count in counts {
+        let Ok(()) = places.push(12 * total) else {
+            return Err(NoMemory);
+        };
+        total += *count;
+    }
+    Ok(places)
+}
+
+// How many blocks stand before block (i,j).
+fn place_of(parts: u32, i: u32, j: u32) -> usize
+    requires row { i < parts }
+    requires column { j < parts }
+    ensures value { result ≡ block_place parts i j }
+    ensures below { result < parts * parts }
+{
+    j as usize * parts as usize + i as usize
+}
+
+// Reads a column of counts, which stand at a place of Meta, puts them behind those that are there, and adds them to a
+// total.
+fn load_column<D: Depot>(
+    depot: &mut D,
+    edges: u64,
+    place: u64,
+    before: u64,
+    column: &mut [u8],
+    parts: usize,
+    counts: &mut Vec<u64>,
+) -> Result<u64, TableFault>
+    requires attached { IsSome (D.attached depot.old) }
+    requires whole { length column.old ≡ 8 * parts }
+    requires far { place + 8 * parts < 2 ^ 64 }
+    requires inside { (meta : List ℕ) → D.holds depot.old FileKind.Meta ≡ Some meta → place + 8 * parts ≤ length meta }
+    requires fits { before ≤ edges }
+    requires place { 32 ≤ place }
+    ensures told { IfOk result (λ total. (meta : List ℕ) → D.holds depot.old FileKind.Meta ≡ Some meta
+        → (added edges place before (numbers place parts meta) ≡ Ok total) × (counts.new.items ≡ counts.old.items ++ numbers place parts meta)) }
+    ensures len { OnOk result (length counts.new.items ≡ length counts.old.items + parts) }
+    ensures sum { IfOk result (λ total. sum counts.new.items + before ≡ sum counts.old.items + total) }
+    ensures fits { IfOk result (λ total. total ≤ edges) }
+    ensures cause { IfErr result (λ fault. OnDepotFault fault (Rose (D.faults depot.old) (D.faults depot.new))) }
+    ensures damaged { IfErr result (λ fault. IfDamaged fault (λ p n.
+        (32 ≤ p) × (0 < n) × ((meta : List ℕ) → D.holds depot.old FileKind.Meta ≡ Some meta
+        → added edges place before (numbers place parts meta) ≡ Err (record { place = p; found = n })))) }
+    ensures reads { OnlyReads D.holds D.taken D.stored D.faults D.attached depot.old depot.new }
+{
+    let Ok(()) = fill(depot, place, column) else {
+        return Err(TableFault::Depot);
+    };
+    let total = match add_column(edges, place, before, column, parts) {
+        Ok(total) => total,
+        Err(mismatch) => {
+            return Err(TableFault::Damaged {
+                place: mismatch.place,
+                found: mismatch.found,
+            });
+        }
+    };
+    let Ok(()) = push_column(counts, column, parts) else {
+        return Err(TableFault::NoMemory);
+    };
+    Ok(total)
+}
+
+// Reads the counts of all columns, which have to add up to the edges. The buffer has room for one column.
+fn load_columns<D: Depot>(
+    depot: &mut D,
+    info: GridInfo,
+    column: &mut [u8],
+    counts: &mut Vec<u64>,
+) -> Result<(), TableFault>
+    requires attached { IsSome (D.attached depot.old) }
+    requires head { IsHead info }
+    requires whole { length column.old ≡ 8 * info.parts }
+    requires inside { (meta : List ℕ) → D.holds depot.old FileKind.Meta ≡ Some meta → length meta ≡ meta_length info.parts }
+    requires none { counts.old.items ≡ [] }
+    ensures told { OnOk result ((meta : List ℕ) → D.holds depot.old FileKind.Meta ≡ Some meta → counts.new.items ≡ counts_of info.parts meta) }
+    ensures len { OnOk result (length counts.new.items ≡ info.parts * info.parts) }
+    ensures sum { OnOk result (sum counts.new.items ≡ info.edges) }
+    ensures cause { IfErr result (λ fault. OnDepotFault fault (Rose (D.faults depot.old) (D.faults depot.new))) }
+    ensures damaged { IfErr result (λ fault. IfDamaged fault (λ p n.
+        IsWrongCount info.edges p n × ((meta : List ℕ) → D.holds depot.old FileKind.Meta ≡ Some meta
+        → counted info.edges (counts_of info.parts meta) ≡ Err (record { place = p; found = n })))) }
+    ensures reads { OnlyReads D.holds D.taken D.stored D.faults D.attached depot.old depot.new }
+{
+    let parts = info.parts as usize;
+    let mut total = 0;
+    for j in 0..parts {
+        let place = 32 + 8 * (j * parts) as u64;
+        total = load_column(depot, info.edges, place, total, column, parts, counts)?;
+    }
+    match reach(info.edges, total) {
+        Ok(()) => Ok(()),
+        Err(mismatch) => Err(TableFault::Damaged {
+            place: mismatch.place,
+            found: mismatch.found,
+        }),
+    }
+}
+
+impl BlockTable {
+    /// Reads how many edges each block of a grid has, where the files were found to be a grid's with this head. `Depot`
+    /// comes only where the depot's count of faults rose, and `NoMemory` only where memory ran out. `Damaged` never comes
+    /// over a depot that tells its files: it carries the place and the number with which the counts that were read don't
+    /// add up to the edges. No file changes. The format is our own.
+    pub fn read<D: Depot>(
+        alloc: Global,
+        depot: &mut D,
+        info: GridInfo,
+    ) -> Result<BlockTable, TableFault>
+        requires attached { IsSome (D.attached depot.old) }
+        requires head { IsHead info }
+        requires accepted { (files : GridFiles) → Holds (D.holds depot.old) files → head_of files ≡ Ok info }
+        ensures told { IfOk result (λ table. (files : GridFiles) → Holds (D.holds depot.old) files → table.counts ≡ counts_of info.parts files.meta) }
+        ensures parts { IfOk result (λ table. table.parts ≡ info.parts) }
+        ensures len { IfOk result (λ table. length table.counts ≡ info.parts * info.parts) }
+        ensures sum { IfOk result (λ table. sum table.counts ≡ info.edges) }
+        ensures cause { IfErr result (λ fault. OnDepotFault fault (Rose (D.faults depot.old) (D.faults depot.new))) }
+        ensures damaged { IfErr result (λ fault. IfDamaged fault (λ p n.
+            IsWrongCount info.edges p n × (D.holds depot.old FileKind.Meta ≡ None))) }
+        ensures reads { OnlyReads D.holds D.taken D.stored D.faults D.attached depot.old depot.new }
+    {
+        let parts = info.parts as usize;
+        let Ok(mut counts) = Vec::with_capacity(alloc, parts * parts) else {
+            return Err(TableFault::NoMemory);
+        };
+        let mut column = [0; 2048];
+        load_columns(depot, info, &mut column[..8 * parts], &mut counts)?;
+        let Ok(places) = places_of(alloc, &counts) else {
+            return Err(TableFault::NoMemory);
+        };
+        Ok(BlockTable {
+            parts: info.parts,
+            counts,
+            places,
+        })
+    }
+
+    /// How many edges the block from part i into part j has, in constant time. Both have to be below the number of
+    /// parts.
+    pub fn count(&self, i: u32, j: u32) -> u64
+        requires row { i < self.now.parts }
+        requires column { j < self.now.parts }
+        ensures { result ≡ count_at self.now i j }
+    {
+        self.counts[place_of(self.parts, i, j)]
+    }
+
+    /// Where in Primary the block from part i into part j begins, in constant time: 12 bytes for each edge of the
+    /// blocks before it in column order. Both have to be below the number of parts.
+    pub fn primary_place(&self, i: u32, j: u32) -> u64
+        requires row { i < self.now.parts }
+        requires column { j < self.now.parts }
+        ensures { result ≡ primary_place_of self.now i j }
+    {
+        self.places[place_of(self.parts, i, j)]
+    }
+}

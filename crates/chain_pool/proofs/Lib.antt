@@ -1,4 +1,5 @@
 pub mod ChainLemmas
+pub mod HeldLemmas
 pub mod MoveLemmas
 pub mod NodeLemmas
 pub mod StartLemmas

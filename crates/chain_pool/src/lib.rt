@@ -23,7 +23,9 @@ mod tests {
 
     #[test]
     fn chains_share_the_nodes(rt: HostRuntime) -> Result<(), Fail> {
-        let mut pool = ChainPool::new(rt.alloc(), 3, 2).ok().expect(&rt, "memory");
+        let Ok(mut pool) = ChainPool::new(rt.alloc(), 3, 2) else {
+            panic!(rt; "memory");
+        };
         assert_eq!(rt; pool.push(0, edge(1)), Ok(()));
         assert_eq!(rt; pool.push(1, edge(2)), Ok(()));
         assert_eq!(rt; pool.push(0, edge(3)), Ok(()));

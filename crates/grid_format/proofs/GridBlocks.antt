@@ -49,7 +49,7 @@ module _ (edges : List Edge) (c p : ℕ) where
       let room : (j + 1) * p ≤ p * p = mul-le (j + 1) p p p (omega arith) (omega arith) in
       omega (arith, add-mul j 1 p, room, length-blocks)
 
-  block_is : (i j : ℕ) → i < p → j < p → get_or all_blocks (j * p + i) [] ≡ block edges c i j
+  pub block_is : (i j : ℕ) → i < p → j < p → get_or all_blocks (j * p + i) [] ≡ block edges c i j
   block_is i j row column =
       let zero_i : 0 + i ≡ i = omega arith in
       let zero_j : 0 + j ≡ j = omega arith in

@@ -1,0 +1,104 @@
+use Rattle.std.proofs.Common.{◌≡◌, ◌∙◌, ℕ, List, All, Some, flat_map, refl, sym, ap, subst, arith}
+use Rattle.std.specs.Prelude.{IfSome}
+use Rattle.lumos_base.specs.Records.{edge_bytes}
+use Rattle.lumos_depot.specs.declared.depot.FileKind.TheVariants.{Spool, Values}
+use Rattle.partition.specs.Blocks.{IsBelow}
+use Rattle.grid_format.specs.Grid.{grid, grid_head}
+use Rattle.grid_format.specs.Heads.{IsHead}
+use Rattle.grid_build.specs.Built.{HasFiles, parts_of}
+use Rattle.grid_build.specs.Steps.{IsListed}
+use Rattle.grid_build.proofs.Building.{AreLimits, files_by, leaves_then, list_within, spool_kept, spool_leaves, spool_listed, steps_by, stopped_outside}
+use Rattle.grid_build.proofs.Moving.{told_some}
+use Rattle.grid_build.proofs.builder.build.Goals as goal
+
+pub returns-in-Err-clause-grid : goal.returns-in-Err-clause-grid
+returns-in-Err-clause-grid g c =
+    rw (c.depot_fault.ensures)
+    (stopped_outside c.args.options.now.limits (parts_of c.args.options.now.parts) (g.I.Source.left c.args.input.now) (g.I.Source.left c.args.input.now) (g.D.Depot.holds c.args.depot.now) (g.D.Depot.holds c.size_file.new.depot) c.in-Err.fault)
+
+pub cut-parts-requires-clause-few_vertices : goal.cut-parts-requires-clause-few_vertices
+cut-parts-requires-clause-few_vertices g c =
+    let limits : AreLimits c.args.options.now.limits = record { vertex = c.requires.vertex; vertices = c.requires.vertices; edges = c.requires.edges } in
+    (spool_listed c.args.options.now.limits (parts_of c.args.options.now.parts) c.in-Ok.ensures.list.bytes (g.D.Depot.holds c.spool_list.new.depot Spool) c.in-Ok.spooled limits c.requires.some_parts c.requires.few_parts c.in-Ok.ensures.list.reads.0).0
+
+pub write_grid-requires-clause-few : goal.write_grid-requires-clause-few
+write_grid-requires-clause-few g c =
+    let limits : AreLimits c.args.options.now.limits = record { vertex = c.requires.vertex; vertices = c.requires.vertices; edges = c.requires.edges } in
+    (spool_listed c.args.options.now.limits (parts_of c.args.options.now.parts) c.in-Ok.ensures.list.bytes (g.D.Depot.holds c.spool_list.new.depot Spool) c.in-Ok.spooled limits c.requires.some_parts c.requires.few_parts c.in-Ok.ensures.list.reads.0).1
+
+pub write_grid-requires-clause-some : goal.write_grid-requires-clause-some
+write_grid-requires-clause-some g c = λ one.
+    let limits : AreLimits c.args.options.now.limits = record { vertex = c.requires.vertex; vertices = c.requires.vertices; edges = c.requires.edges } in
+    let some = (spool_listed c.args.options.now.limits (parts_of c.args.options.now.parts) c.in-Ok.ensures.list.bytes (g.D.Depot.holds c.spool_list.new.depot Spool) c.in-Ok.spooled limits c.requires.some_parts c.requires.few_parts c.in-Ok.ensures.list.reads.0).2 one in
+    let vertices : c.cut-parts.result.vertices ≡ c.in-Ok.spooled.vertices = ap (λ cut. cut.vertices) c.cut-parts.ensures in
+    omega (arith, some, vertices)
+
+pub write_grid-requires-clause-spool : goal.write_grid-requires-clause-spool
+write_grid-requires-clause-spool g c =
+    let limits : AreLimits c.args.options.now.limits = record { vertex = c.requires.vertex; vertices = c.requires.vertices; edges = c.requires.edges } in
+    let vertices : c.cut-parts.result.vertices ≡ c.in-Ok.spooled.vertices = ap (λ cut. cut.vertices) c.cut-parts.ensures in
+    subst (λ n. IfSome (g.D.Depot.holds c.spool_list.new.depot Spool) (λ file. IsListed n c.in-Ok.spooled.edges (Some file))) (sym vertices)
+    (spool_kept c.args.options.now.limits (parts_of c.args.options.now.parts) c.in-Ok.ensures.list.bytes (g.D.Depot.holds c.spool_list.new.depot Spool) c.in-Ok.spooled limits c.requires.some_parts c.requires.few_parts c.in-Ok.ensures.list.reads.0)
+
+pub returns-in-Ok-write_grid-clause-grid : goal.returns-in-Ok-write_grid-clause-grid
+returns-in-Ok-write_grid-clause-grid g c =
+    let limits : AreLimits c.args.options.now.limits = record { vertex = c.requires.vertex; vertices = c.requires.vertices; edges = c.requires.edges } in
+    let p = parts_of c.args.options.now.parts in
+    let read = c.in-Ok.ensures.list in
+    let is = read.reads.0 in
+    let list = is.list in
+    let within = list_within c.args.options.now.limits p read.bytes list limits c.requires.some_parts c.requires.few_parts is.is in
+    let vertices : c.cut-parts.result.vertices ≡ list.vertices = ap (λ cut. cut.vertices) c.cut-parts.ensures ∙ is.vertices in
+    let parts : c.cut-parts.result.parts ≡ p = ap (λ cut. cut.parts) c.cut-parts.ensures ∙ c.stated_parts.ensures in
+    let mid = g.D.Depot.holds c.spool_list.new.depot in
+    let last = g.D.Depot.holds c.write_grid.new.depot in
+    let head : c.in-Ok-write_grid.info ≡ grid_head list.edges list.vertices p = c.in-Ok-write_grid.ensures.head ∙ (λ i. record { version = 1; parts = parts i; vertices = vertices i; edges = is.edges i }) in
+    let files : (file : List ℕ) → mid Spool ≡ Some file → HasFiles (grid list.edges list.vertices p) mid last = λ file told.
+    subst (λ n. HasFiles (grid list.edges n p) mid last) vertices
+    (subst (λ k. HasFiles (grid list.edges c.cut-parts.result.vertices k) mid last) parts
+    (c.in-Ok-write_grid.ensures.files list.edges (record {
+      numbers = within.1;
+      ends = subst (λ n. All (IsBelow n) list.edges) (sym vertices) within.0.ends;
+      bytes = told ∙ ap Some (told_some (mid Spool) (λ file. file ≡ flat_map edge_bytes list.edges) file told is.kept);
+    }) (sym is.edges))) in
+    let first = steps_by (g.D.Depot.holds c.args.depot.now) mid (g.D.Depot.tells_all c.args.depot.now) (g.D.Depot.tells_all c.spool_list.new.depot)
+    (c.spool_list.ensures.moves.contents Values (λ same. absurd (cc)) ∙ c.size_file.ensures.contents Values (λ same. absurd (cc))) in
+    let second = steps_by mid last (g.D.Depot.tells_all c.spool_list.new.depot) (g.D.Depot.tells_all c.write_grid.new.depot) c.write_grid.ensures.leaves.values in
+    record {
+      bytes = read.bytes;
+      told = read.told;
+      builds = (
+        record {
+          list = list;
+          is = is.is;
+          within = within.0;
+          head = head;
+          files = files_by (grid list.edges list.vertices p) (g.D.Depot.holds c.args.depot.now) mid last (mid Spool) refl (g.D.Depot.tells_all c.spool_list.new.depot) first second files;
+        },
+        read.reads.1,
+      );
+    }
+
+pub returns-in-Ok-write_grid-clause-limits : goal.returns-in-Ok-write_grid-clause-limits
+returns-in-Ok-write_grid-clause-limits g c =
+    let limits : AreLimits c.args.options.now.limits = record { vertex = c.requires.vertex; vertices = c.requires.vertices; edges = c.requires.edges } in
+    let p = parts_of c.args.options.now.parts in
+    let bounds = spool_listed c.args.options.now.limits p c.in-Ok.ensures.list.bytes (g.D.Depot.holds c.spool_list.new.depot Spool) c.in-Ok.spooled limits c.requires.some_parts c.requires.few_parts c.in-Ok.ensures.list.reads.0 in
+    let vertices : c.cut-parts.result.vertices ≡ c.in-Ok.spooled.vertices = ap (λ cut. cut.vertices) c.cut-parts.ensures in
+    let parts : c.cut-parts.result.parts ≡ p = ap (λ cut. cut.parts) c.cut-parts.ensures ∙ c.stated_parts.ensures in
+    let some = c.requires.some_parts in
+    let few = c.requires.few_parts in
+    subst IsHead (sym c.in-Ok-write_grid.ensures.head) (record {
+      version = refl;
+      some_parts = omega (arith, parts, some);
+      few_parts = omega (arith, parts, few);
+      vertices = omega (arith, vertices, bounds.0);
+      edges = bounds.1;
+    })
+
+pub returns-in-Ok-write_grid-clause-leaves : goal.returns-in-Ok-write_grid-clause-leaves
+returns-in-Ok-write_grid-clause-leaves g c =
+    leaves_then g.D.Depot.holds g.D.Depot.taken g.D.Depot.stored g.D.Depot.faults g.D.Depot.attached c.args.depot.now c.spool_list.new.depot c.write_grid.new.depot
+    (leaves_then g.D.Depot.holds g.D.Depot.taken g.D.Depot.stored g.D.Depot.faults g.D.Depot.attached c.args.depot.now c.size_file.new.depot c.spool_list.new.depot c.size_file.ensures.leaves
+    (spool_leaves g.D.Depot.holds g.D.Depot.taken g.D.Depot.stored g.D.Depot.faults g.D.Depot.attached c.size_file.new.depot c.spool_list.new.depot c.spool_list.ensures.moves))
+    c.write_grid.ensures.leaves

@@ -1,0 +1,10 @@
+pub mod Built
+pub mod Counted
+pub mod Numbered
+pub mod Outside
+pub mod Passes
+pub mod Sorting
+pub mod SpoolSteps
+pub mod Spooling
+pub mod Steps
+pub mod Tallied

@@ -1,0 +1,19 @@
+//! Builds the files of a grid from the text of an edge list, over any source and any depot: the list goes into Spool, its
+//! blocks are counted, its edges are sorted into their blocks through a pool of chains, and Meta comes last.
+#![tactic(auto)]
+
+mod builder;
+mod bytes;
+mod chains;
+mod counts;
+mod numbers;
+mod options;
+mod reads;
+mod sorting;
+mod spool;
+mod tallies;
+#[cfg(test)]
+mod tests;
+
+pub use builder::build;
+pub use options::{BuildFault, BuildOptions, PartsChoice};

@@ -1,2 +1,14 @@
 pub mod ColumnLemmas
+pub mod EachLemmas
+pub mod EventLemmas
+pub mod FedEdgeLemmas
 pub mod FinishLemmas
+pub mod LegalLemmas
+pub mod LookLemmas
+pub mod OutLemmas
+pub mod RangeLemmas
+pub mod ReplayLemmas
+pub mod ScheduleFields
+pub mod ScheduleSteps
+pub mod SeekLemmas
+pub mod StartLemmas

@@ -1,2 +1,11 @@
+pub mod EdgeList
+pub mod Events
 pub mod Finish
+pub mod Ranges
 pub mod Reach
+pub mod Replayed
+pub mod Schedule
+pub mod ScheduleLine
+pub mod ScheduleParts
+pub mod ScheduleRead
+pub mod Sound

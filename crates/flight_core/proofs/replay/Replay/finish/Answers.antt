@@ -1,0 +1,28 @@
+use Rattle.std.proofs.Common.{◌≡◌, ◌∷◌, None, refl, sym, ap₂, ◌∙◌, subst}
+use Rattle.flight_core.specs.declared.event.Event.TheVariants.{Finalise}
+use Rattle.flight_core.specs.Events.{keep, made_values, step, refusal}
+use Rattle.flight_core.specs.Replayed.{IsReplay, refused}
+use Rattle.flight_core.proofs.ReplayLemmas.{state_by, state_is, replay_step}
+use Rattle.partition.specs.Parts.{chunk_of}
+use Rattle.flight_core.proofs.replay.Replay.finish.Goals as goal
+
+pub invariant_of-self-2 : goal.invariant_of-self-2
+invariant_of-self-2 g c =
+    let inside = c.self.inside in
+    let p = g.G.VertexProgram.model inside.program in
+    let t = c.args.t in
+    let j = c.args.j in
+    let event = Finalise t j in
+    let n = inside.parts.vertices in
+    let size = chunk_of inside.parts in
+    let edges = inside.edges.items in
+    let s = state_by inside.done.items inside.sums.items inside.finals.items in
+    let legal : refusal p n size inside.parts.parts 1024 s event ≡ None =
+    subst (λ w. refused (g.G.VertexProgram.model w.program) w event ≡ None) (sym c.self.view_is) c.requires in
+    let made : c.in-Ok.items.items ≡ made_values p n size s t j =
+    subst (λ w. c.in-Ok.items.items ≡ made_values (g.G.VertexProgram.model w.program) w.cut.vertices (chunk_of w.cut) w.state t j) (sym c.self.view_is) c.in-Ok.ensures in
+    let finals = c.push_front_reserved.ensures.items ∙ ap₂ (λ xs ks. keep t j xs ∷ ks) made c.reserve.ensures.items in
+    let state : state_by inside.done.items c.drop_kept.new.list.items c.push_front_reserved.new.self.items ≡ step p edges n size s event =
+    state_is refl c.drop_kept.ensures.items finals in
+    subst (IsReplay p edges inside.parts) (sym state)
+    (replay_step p (g.met.G.VertexProgram.lawful inside.program) edges inside.parts s event c.self.invariant legal)

@@ -1,10 +1,11 @@
 -- What a run comes to.
-use Rattle.std.proofs.Common.{◌≡◌, ◌==◌, ℕ, Bool, true, false, nat_lt, List, [], Option, Some, None, Result, Ok, Err, subst}
+use Rattle.std.proofs.Common.{◌≡◌, ◌==◌, ℕ, Bool, true, false, nat_lt, List, [], Option, Some, None, Result, Ok, Err, refl, sym, subst}
 use Rattle.std.specs.Prelude.{if◌then◌else◌, unwrap_or}
 use Rattle.partition.specs.Parts.{Cut, cut_of}
 use Rattle.partition.specs.declared.records.PartFault.TheVariants.{ZeroParts, TooManyParts, TooManyVertices}
 use Rattle.lumos_base.specs.declared.records.Edge.{Edge}
 use Rattle.lumos_depot.specs.Streams.{AppendsFront, after_told}
+use Rattle.lumos_depot.specs.declared.depot.FileKind.{FileKind}
 use Rattle.lumos_depot.specs.declared.stream.Failed.{Failed}
 use Rattle.lumos_law.specs.Program.{Program}
 use Rattle.lumos_law.specs.Sync.{Ending, ending}
@@ -13,11 +14,14 @@ use Rattle.lumos_top.specs.Turns.{WritesTo, ending_told}
 use Rattle.edge_text.specs.Reading.{Listed, reading}
 use Rattle.edge_text.specs.declared.fault.TextFault.{TextFault}
 use Rattle.edge_text.specs.declared.fault.TextLimits.{TextLimits}
-use Rattle.lumos_top.specs.Outcome.{Ran, answer_of}
-use Rattle.lumos_top.specs.Running.{Ends, EndsOn, HasRun, StopsAtWords}
+use Rattle.lumos_top.specs.Outcome.{Did, answer, answer_to, done_with, done_within}
+use Rattle.lumos_top.specs.Words.{request}
+use Rattle.lumos_top.specs.Running.{Ends, EndsOn, HasDone, SameGrid, Sides, StopsAtWords}
+use Rattle.lumos_top.specs.declared.status.Completed.{Completed}
 use Rattle.lumos_top.specs.declared.status.Ended.{Ended}
 use Rattle.lumos_top.specs.declared.status.Stop.{Stop}
 use Rattle.lumos_top.specs.declared.status.Stop.TheVariants as stop
+use Rattle.lumos_top.specs.declared.status.TooMany.{TooMany}
 use Rattle.lumos_top.specs.declared.words.Request.{Request}
 use Rattle.lumos_top.specs.declared.words.UsageFault.{UsageFault}
 
@@ -35,12 +39,15 @@ all_told : (left : Option (List ℕ)) (all : List ℕ) → left ≡ Some all →
 all_told None all h = absurd (cc)
 all_told (Some bytes) all h = cc
 
--- a run that was refused before it read anything
-pub refused : (answer_on : List ℕ → Result Ran Stop) (why : Stop) (left out : Option (List ℕ)) → ((bytes : List ℕ) → Ends (answer_on bytes) out out (Err why)) → EndsOn answer_on left left out out (Err why)
-refused answer_on why left out ends = record {
-  bytes = unwrap_or left [];
-  told = λ all h. all_told left all h;
-  ends = ends (unwrap_or left []);
+pub same_grid : (told : FileKind → Option (List ℕ)) → SameGrid told told
+same_grid told = record { meta_file = refl; primary_file = refl; secondary_file = refl; info_file = refl }
+
+-- a command that was refused before it read anything
+pub refused : (answer_on : List ℕ → Result Did Stop) (why : Stop) (sides : Sides) → ((bytes : List ℕ) → Ends (answer_on bytes) sides (Err why)) → EndsOn answer_on sides (Err why)
+refused answer_on why sides ends = record {
+  bytes = unwrap_or sides.left_old [];
+  told = λ all h. all_told sides.left_old all h;
+  ends = ends (unwrap_or sides.left_old []);
   ended = λ ok. absurd (cc);
 }
 
@@ -56,18 +63,26 @@ written_whole e old new text r ended is h = subst (WritesTo e old new text) is h
 pub written_front : (e : Ending) (old new : Option (List ℕ)) (text : List ℕ) (r : Result Ended Failed) (failed : Failed) → r ≡ Err failed → WritesTo e old new text r → AppendsFront old new text
 written_front e old new text r failed is h = subst (WritesTo e old new text) is h
 
-no_usage : (r : Result Listed TextFault) (request : Request) (fault : UsageFault) → answer_of request r ≡ Err (stop.Usage fault) → ⊥
-no_usage (Ok list) request fault h = cc
-no_usage (Err text) request fault h = cc
+no_usage : (command : Listed → Did) (r : Result Listed TextFault) (fault : UsageFault) → done_with command r ≡ Err (stop.Usage fault) → ⊥
+no_usage command (Ok list) fault h = cc
+no_usage command (Err text) fault h = cc
 
-no_usage_at : (request : Request) (r : Result Listed TextFault) (old new : Option (List ℕ)) (result : Result Ended Stop) (fault : UsageFault) → result ≡ Err (stop.Usage fault) → Ends (answer_of request r) old new result → ⊥
-no_usage_at request r old new result fault is h =
-    let refused : Ends (answer_of request r) old new (Err (stop.Usage fault)) = subst (Ends (answer_of request r) old new) is h in
-    no_usage r request fault refused.is
+no_usage_at : (command : Listed → Did) (r : Result Listed TextFault) (sides : Sides) (result : Result Completed Stop) (fault : UsageFault) → result ≡ Err (stop.Usage fault) → Ends (done_with command r) sides result → ⊥
+no_usage_at command r sides result fault is h =
+    let refused : Ends (done_with command r) sides (Err (stop.Usage fault)) = subst (Ends (done_with command r) sides) is h in
+    no_usage command r fault refused.gives
 
--- a run that began doesn't stop at the words
-pub began : (request : Request) (limits : TextLimits) (left_old left_new old new : Option (List ℕ)) (result : Result Ended Stop) (fault : UsageFault) → HasRun request limits left_old left_new old new result → result ≡ Err (stop.Usage fault) → ⊥
-began request limits left_old left_new old new result fault h is = no_usage_at request (reading limits h.bytes) old new result fault is h.ends
+-- a command over a list that is read within its limits
+pub within_limits : (command : Listed → Did) (r : Result TextLimits TooMany) (limits : TextLimits) (sides : Sides) (result : Result Completed Stop) → r ≡ Ok limits → HasDone command limits sides result → EndsOn (done_within command r) sides result
+within_limits command r limits sides result is h = subst (λ l. EndsOn (done_within command l) sides result) (sym is) h
 
-pub stops_at : (asked now : Result Request UsageFault) (result : Result Ended Stop) → now ≡ asked → StopsAtWords now result → StopsAtWords asked result
+-- a command that words ask for
+pub asked_for : (words : List (List ℕ)) (r : Result Request UsageFault) (sides : Sides) (result : Result Completed Stop) → request words ≡ r → EndsOn (answer_to r) sides result → EndsOn (answer words) sides result
+asked_for words r sides result is h = subst (λ q. EndsOn (answer_to q) sides result) (sym is) h
+
+-- a command that began doesn't stop at the words
+pub began : (command : Listed → Did) (limits : TextLimits) (sides : Sides) (result : Result Completed Stop) (fault : UsageFault) → HasDone command limits sides result → result ≡ Err (stop.Usage fault) → ⊥
+began command limits sides result fault h is = no_usage_at command (reading limits h.bytes) sides result fault is h.ends
+
+pub stops_at : (asked now : Result Request UsageFault) (result : Result Completed Stop) → now ≡ asked → StopsAtWords now result → StopsAtWords asked result
 stops_at asked now result is h = subst (λ r. StopsAtWords r result) is h

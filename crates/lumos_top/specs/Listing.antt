@@ -38,17 +38,18 @@ pub record HasPiece (seen : List ℕ) (edges : List Edge) (reader : ReaderState)
 abbrev pub listed_of : EdgeList → Listed
 listed_of list = record { edges = list.edges.items; vertices = list.vertices }
 
--- The answer is that of the bytes, which were read to their end, or a fault of theirs; else the outside stopped it.
+-- The answer is that of the bytes, where those that are told were read to their end, or a fault of theirs; else the
+-- outside stopped it.
 abbrev pub ReadsAs : TextLimits → List ℕ → Option (List ℕ) → Option (List ℕ) → Result EdgeList ListStop → Type 0
-ReadsAs limits bytes old new (Ok list) = (reading limits bytes ≡ Ok (listed_of list)) × (old ≡ Some bytes → new ≡ Some [])
+ReadsAs limits bytes old new (Ok list) = (reading limits bytes ≡ Ok (listed_of list)) × ((all : List ℕ) → old ≡ Some all → new ≡ Some [])
 ReadsAs limits bytes old new (Err (Text fault)) = reading limits bytes ≡ Err fault
 ReadsAs limits bytes old new (Err Memory) = Unit {0}
 ReadsAs limits bytes old new (Err Read) = Unit {0}
 
--- There are bytes, those that were left where the source tells them, that were read as a list.
-pub record HasListed (limits : TextLimits) (old new : Option (List ℕ)) (result : Result EdgeList ListStop) : Type 0 where
+-- There are bytes, these first and then those that were left where the source tells them, that were read as a list.
+pub record HasListed (limits : TextLimits) (front : List ℕ) (old new : Option (List ℕ)) (result : Result EdgeList ListStop) : Type 0 where
   pub bytes : List ℕ
-  pub told : (all : List ℕ) → old ≡ Some all → bytes ≡ all
+  pub told : (all : List ℕ) → old ≡ Some all → bytes ≡ front ++ all
   pub reads : ReadsAs limits bytes old new result
 
 -- The end of a text was read.

@@ -1,7 +1,9 @@
--- What words and input come to: a status, a text and a fault line.
-use Rattle.std.specs.Prelude.{ℕ, List, [], ◌++◌, nat_lt, Option, Some, None, Result, Ok, Err, codes, if◌then◌else◌}
+-- What words and input come to: a status, a text, a fault line and the files of a grid.
+use Rattle.std.specs.Prelude.{ℕ, List, [], ◌++◌, length, nat_lt, Option, Some, None, Result, Ok, Err, codes, if◌then◌else◌}
 use Rattle.std.specs.Fmt.{decimal}
 use Rattle.edge_text.specs.Reading.{Listed, reading}
+use Rattle.flight_core.specs.declared.event.Illegal.{Illegal}
+use Rattle.flight_core.specs.declared.event.Illegal.TheVariants.{Bounds, ColumnFinal, AlreadyDone, SourceNotFinal, NotSkippable, OldNotFinal, ColumnOpen}
 use Rattle.edge_text.specs.declared.fault.InputWhat.{InputWhat}
 use Rattle.edge_text.specs.declared.fault.InputWhat.TheVariants.{NotANumber, MissingTarget, TooManyFields, NumberTooLarge, VertexTooLarge, WeightTooLarge, VertexBeyond}
 use Rattle.edge_text.specs.declared.fault.TextFault.{TextFault}
@@ -11,13 +13,18 @@ use Rattle.lumos_law.specs.Program.{Program}
 use Rattle.lumos_law.specs.Sync.{Ending, over_in, still_in, limit_at, ending}
 use Rattle.programs.specs.Components.{components_program}
 use Rattle.programs.specs.Tally.{tally_program}
-use Rattle.lumos_top.specs.Report.{report}
-use Rattle.lumos_top.specs.Words.{request}
+use Rattle.grid_format.specs.Checks.{GridFiles}
+use Rattle.grid_format.specs.Grid.{grid}
+use Rattle.lumos_top.specs.Report.{grid_line, report}
+use Rattle.lumos_top.specs.Replays.{Streamed, replayed, streamed}
+use Rattle.lumos_top.specs.Words.{name_at, request}
+use Rattle.lumos_top.specs.declared.words.ListWords.{ListWords}
 use Rattle.lumos_top.specs.declared.words.OptionName.{OptionName}
 use Rattle.lumos_top.specs.declared.words.OptionName.TheVariants as option
 use Rattle.lumos_top.specs.declared.words.ProgramName.{ProgramName}
 use Rattle.lumos_top.specs.declared.words.ProgramName.TheVariants.{Components, Tally}
 use Rattle.lumos_top.specs.declared.words.Request.{Request}
+use Rattle.lumos_top.specs.declared.words.Request.TheVariants.{Run, Build, Replay}
 use Rattle.lumos_top.specs.declared.words.UsageFault.{UsageFault}
 use Rattle.lumos_top.specs.declared.words.UsageWhat.{UsageWhat}
 use Rattle.lumos_top.specs.declared.words.UsageWhat.TheVariants as usage
@@ -28,45 +35,104 @@ use Rattle.lumos_top.specs.declared.status.Stop.TheVariants as stop
 use Rattle.lumos_top.specs.declared.status.TooMany.{TooMany}
 use Rattle.lumos_top.specs.declared.status.TooMany.TheVariants.{Parts, Vertices}
 
--- how the list of a run is read
-abbrev pub limits_with : Request → Option ℕ → TextLimits
-limits_with request vertices = record { max_vertex = 268435455; vertices = vertices; max_edges = request.max_edges; max_bytes = request.max_bytes; both = request.both }
+-- how the list of a command is read
+abbrev pub limits_with : ListWords → Option ℕ → TextLimits
+limits_with words vertices = record { max_vertex = 268435455; vertices = vertices; max_edges = words.max_edges; max_bytes = words.max_bytes; both = words.both }
 
-abbrev pub vertices_within : Request → Option ℕ → Result TextLimits TooMany
-vertices_within request None = Ok (limits_with request None)
-vertices_within request (Some n) = if nat_lt 268435456 n then Err (Vertices n) else Ok (limits_with request (Some n))
+abbrev pub vertices_within : ListWords → Option ℕ → Result TextLimits TooMany
+vertices_within words None = Ok (limits_with words None)
+vertices_within words (Some n) = if nat_lt 268435456 n then Err (Vertices n) else Ok (limits_with words (Some n))
 
 -- the same, where neither the parts nor the vertices that are stated are too many
-abbrev pub limits_of : Request → Result TextLimits TooMany
-limits_of request = if nat_lt 256 request.parts then Err (Parts request.parts) else vertices_within request request.vertices
+abbrev pub limits_of : ListWords → Result TextLimits TooMany
+limits_of words = if nat_lt 256 words.parts then Err (Parts words.parts 256) else vertices_within words words.vertices
 
 -- what a run writes, and how it ends
 pub record Ran : Type 0 where
   pub text : List ℕ
   pub ending : Ending
 
-abbrev pub ran_by : {V S : Type 0} → Program V S → List ℕ → Request → Listed → Ran
-ran_by p name request list = record { text = report p name list.edges list.vertices request.parts request.iterations; ending = ending p list.edges list.vertices request.iterations }
+abbrev pub ran_by : {V S : Type 0} → Program V S → List ℕ → ℕ → ℕ → Listed → Ran
+ran_by p name parts iterations list = record { text = report p name list.edges list.vertices parts iterations; ending = ending p list.edges list.vertices iterations }
 
-abbrev pub ran_as : ProgramName → Request → Listed → Ran
-ran_as Components request list = ran_by components_program (codes "components") request list
-ran_as Tally request list = ran_by tally_program (codes "tally") request list
+abbrev pub ran_as : ProgramName → ℕ → ℕ → Listed → Ran
+ran_as Components parts iterations list = ran_by components_program (codes "components") parts iterations list
+ran_as Tally parts iterations list = ran_by tally_program (codes "tally") parts iterations list
 
-abbrev pub answer_of : Request → Result Listed TextFault → Result Ran Stop
-answer_of request (Ok list) = Ok (ran_as request.program request list)
-answer_of request (Err fault) = Err (stop.Text fault)
+abbrev pub ending_status : Ending → Status
+ending_status (over_in t v) = status.Range
+ending_status (still_in t) = status.Done
+ending_status (limit_at t) = status.Done
 
-abbrev pub answer_within : Request → Result TextLimits TooMany → List ℕ → Result Ran Stop
-answer_within request (Ok limits) input = answer_of request (reading limits input)
-answer_within request (Err many) input = Err (stop.TooMany many)
+-- the fault line of a run that ended, where it has one
+abbrev pub ending_line : Ending → List ℕ
+ending_line (over_in t v) = codes "lumos: range: iteration " ++ decimal t ++ codes " vertex " ++ decimal v ++ codes "\n"
+ending_line (still_in t) = []
+ending_line (limit_at t) = []
 
-abbrev pub answer_to : Result Request UsageFault → List ℕ → Result Ran Stop
-answer_to (Ok request) input = answer_within request (limits_of request) input
+-- what a command comes to that nothing stops: its text, its status and fault line, and the grid that it builds, if any
+pub record Did : Type 0 where
+  pub text : List ℕ
+  pub status : Status
+  pub line : List ℕ
+  pub built : Option GridFiles
+
+abbrev pub did_run : Ran → Did
+did_run ran = record { text = ran.text; status = ending_status ran.ending; line = ending_line ran.ending; built = None }
+
+abbrev pub did_build : ℕ → Listed → Did
+did_build parts list = record { text = grid_line list.vertices (length list.edges) parts; status = status.Done; line = []; built = Some (grid list.edges list.vertices parts) }
+
+-- what is done with a list that was read, or its fault
+abbrev pub done_with : (Listed → Did) → Result Listed TextFault → Result Did Stop
+done_with command (Ok list) = Ok (command list)
+done_with command (Err fault) = Err (stop.Text fault)
+
+abbrev pub done_within : (Listed → Did) → Result TextLimits TooMany → List ℕ → Result Did Stop
+done_within command (Ok limits) input = done_with command (reading limits input)
+done_within command (Err many) input = Err (stop.TooMany many)
+
+-- what a replay writes, unless an event is refused
+abbrev pub did_replay : Result (List ℕ) Stop → Result Did Stop
+did_replay (Ok text) = Ok (record { text = text; status = status.Done; line = []; built = None })
+did_replay (Err why) = Err why
+
+-- what a replay of events over a list writes: the iterations from 0 to 1024 are shown
+abbrev pub replay_text : ProgramName → ℕ → Streamed → Result (List ℕ) Stop
+replay_text Components parts s = replayed components_program s.list.edges s.list.vertices parts (codes "components") 1025 s.events
+replay_text Tally parts s = replayed tally_program s.list.edges s.list.vertices parts (codes "tally") 1025 s.events
+
+abbrev pub replay_with : ProgramName → ℕ → Result Streamed Stop → Result Did Stop
+replay_with program parts (Ok s) = did_replay (replay_text program parts s)
+replay_with program parts (Err why) = Err why
+
+-- a replay has 64 parts at most, and its schedule 2^40 bytes
+abbrev pub did_within : ProgramName → ℕ → List ℕ → Result Did Stop
+did_within program parts input = if nat_lt 64 parts then Err (stop.TooMany (Parts parts 64)) else replay_with program parts (streamed 1099511627776 input)
+
+abbrev pub answer_to : Result Request UsageFault → List ℕ → Result Did Stop
+answer_to (Ok (Run program iterations words)) input = done_within (λ list. did_run (ran_as program words.parts iterations list)) (limits_of words) input
+answer_to (Ok (Build directory words)) input = done_within (did_build words.parts) (limits_of words) input
+answer_to (Ok (Replay program parts)) input = did_within program parts input
 answer_to (Err fault) input = Err (stop.Usage fault)
 
--- the run that words and input ask for, or why there is none
-abbrev pub answer : List (List ℕ) → List ℕ → Result Ran Stop
+-- what words and input ask for, or why it isn't done
+abbrev pub answer : List (List ℕ) → List ℕ → Result Did Stop
 answer words input = answer_to (request words) input
+
+-- the directory that words lead to, if they lead to one: that of a build for which no stated number is too great
+abbrev pub place_within : Result TextLimits TooMany → List ℕ → Option (List ℕ)
+place_within (Ok limits) name = Some name
+place_within (Err many) name = None
+
+abbrev pub place_for : List (List ℕ) → Result Request UsageFault → Option (List ℕ)
+place_for words (Ok (Run program iterations list)) = None
+place_for words (Ok (Build directory list)) = place_within (limits_of list) (name_at words directory)
+place_for words (Ok (Replay program parts)) = None
+place_for words (Err fault) = None
+
+abbrev pub directory : List (List ℕ) → Option (List ℕ)
+directory words = place_for words (request words)
 
 abbrev pub text_status : TextFault → Status
 text_status (Input fault) = status.Input
@@ -78,19 +144,20 @@ stop_status stop.Memory = status.Memory
 stop_status (stop.Usage fault) = status.Usage
 stop_status (stop.TooMany many) = status.Limit
 stop_status (stop.Text fault) = text_status fault
+stop_status (stop.BadSchedule line) = status.Input
+stop_status (stop.ScheduleEnded line) = status.Input
+stop_status (stop.TooManyEvents limit) = status.Limit
+stop_status (stop.Illegal event why) = status.Schedule
 stop_status stop.Read = status.ReadFault
+stop_status stop.Depot = status.DepotFault
 stop_status stop.Write = status.WriteFault
-
-abbrev pub ending_status : Ending → Status
-ending_status (over_in t v) = status.Range
-ending_status (still_in t) = status.Done
-ending_status (limit_at t) = status.Done
 
 abbrev pub usage_text : UsageWhat → List ℕ
 usage_text usage.NoCommand = codes "no command"
 usage_text usage.UnknownCommand = codes "unknown command"
 usage_text usage.WordsNotUnderstood = codes "words not understood"
 usage_text usage.UnknownProgram = codes "unknown program"
+usage_text usage.EmptyDirectory = codes "empty directory"
 usage_text usage.BadNumber = codes "bad number"
 usage_text usage.NumberOutside = codes "number outside its range"
 
@@ -116,45 +183,55 @@ text_line (Input fault) = codes "lumos: input: line " ++ decimal fault.line ++ c
 text_line (TooManyEdges limit) = codes "lumos: limit: edges " ++ decimal limit ++ codes "\n"
 text_line (InputTooLong limit) = codes "lumos: limit: bytes " ++ decimal limit ++ codes "\n"
 
--- the fault line of a run that stopped
+abbrev pub illegal_text : Illegal → List ℕ
+illegal_text Bounds = codes "bounds"
+illegal_text ColumnFinal = codes "column final"
+illegal_text AlreadyDone = codes "already done"
+illegal_text SourceNotFinal = codes "source not final"
+illegal_text (NotSkippable vertex) = codes "vertex " ++ decimal vertex ++ codes " contributes"
+illegal_text OldNotFinal = codes "old not final"
+illegal_text (ColumnOpen row) = codes "row " ++ decimal row ++ codes " not done"
+
+-- the fault line of a command that stopped
 abbrev pub stop_line : Stop → List ℕ
 stop_line stop.Memory = codes "lumos: memory\n"
 stop_line (stop.Usage fault) = codes "lumos: usage: " ++ usage_text fault.what ++ option_text fault.option ++ codes "\n"
-stop_line (stop.TooMany (Parts given)) = codes "lumos: limit: parts " ++ decimal given ++ codes " over 256\n"
+stop_line (stop.TooMany (Parts given limit)) = codes "lumos: limit: parts " ++ decimal given ++ codes " over " ++ decimal limit ++ codes "\n"
 stop_line (stop.TooMany (Vertices given)) = codes "lumos: limit: vertices " ++ decimal given ++ codes " over 268435456\n"
 stop_line (stop.Text fault) = text_line fault
+stop_line (stop.BadSchedule line) = codes "lumos: schedule: line " ++ decimal line ++ codes ": bad\n"
+stop_line (stop.ScheduleEnded line) = codes "lumos: schedule: line " ++ decimal line ++ codes ": ended\n"
+stop_line (stop.TooManyEvents limit) = codes "lumos: limit: events " ++ decimal limit ++ codes "\n"
+stop_line (stop.Illegal event why) = codes "lumos: illegal: event " ++ decimal event ++ codes ": " ++ illegal_text why ++ codes "\n"
 stop_line stop.Read = codes "lumos: read fault\n"
+stop_line stop.Depot = codes "lumos: depot fault\n"
 stop_line stop.Write = codes "lumos: write fault\n"
 
--- the fault line of a run that ended, where it has one
-abbrev pub ending_line : Ending → List ℕ
-ending_line (over_in t v) = codes "lumos: range: iteration " ++ decimal t ++ codes " vertex " ++ decimal v ++ codes "\n"
-ending_line (still_in t) = []
-ending_line (limit_at t) = []
-
+-- a status, what is written to `out`, a fault line, and the grid that is built, if one is; else the grid's files stay
 pub record Outcome : Type 0 where
   pub status : Status
   pub out : List ℕ
   pub err : List ℕ
+  pub built : Option GridFiles
 
-abbrev pub outcome_of : Result Ran Stop → Outcome
-outcome_of (Ok ran) = record { status = ending_status ran.ending; out = ran.text; err = ending_line ran.ending }
-outcome_of (Err why) = record { status = stop_status why; out = []; err = stop_line why }
+abbrev pub outcome_of : Result Did Stop → Outcome
+outcome_of (Ok did) = record { status = did.status; out = did.text; err = did.line; built = did.built }
+outcome_of (Err why) = record { status = stop_status why; out = []; err = stop_line why; built = None }
 
--- the outcome of words and input: the status, what is written to `out`, and the fault line
+-- the outcome of words and input
 abbrev pub outcome : List (List ℕ) → List ℕ → Outcome
 outcome words input = outcome_of (answer words input)
 
--- the fault line of a status: three have a line of their own
+-- the fault line of a status: four have a line of their own
 abbrev pub line_for : Status → Outcome → List ℕ
 line_for status.Memory o = stop_line stop.Memory
 line_for status.ReadFault o = stop_line stop.Read
+line_for status.DepotFault o = stop_line stop.Depot
 line_for status.WriteFault o = stop_line stop.Write
 line_for status.Done o = o.err
 line_for status.Usage o = o.err
 line_for status.Input o = o.err
 line_for status.Limit o = o.err
 line_for status.Range o = o.err
-line_for status.DepotFault o = o.err
 line_for status.Grid o = o.err
 line_for status.Schedule o = o.err

@@ -28,6 +28,10 @@ still_line t = codes "still " ++ decimal t ++ 10 ∷ []
 unfoldable pub limit_line : ℕ → List ℕ
 limit_line t = codes "limit " ++ decimal t ++ 10 ∷ []
 
+-- the line of a grid that was built
+unfoldable pub grid_line : ℕ → ℕ → ℕ → List ℕ
+grid_line vertices edges parts = codes "grid vertices " ++ decimal vertices ++ codes " edges " ++ decimal edges ++ codes " parts " ++ decimal parts ++ 10 ∷ []
+
 -- the last line, which a run that ends out of range lacks
 abbrev pub end_line : Ending → List ℕ
 end_line (over_in t v) = []

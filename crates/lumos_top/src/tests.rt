@@ -5,25 +5,43 @@ use std::alloc::Global;
 use std::process::Abort;
 use std::test::Fail;
 
-// A run: its words, the input with the bytes that one read gives and the reads that fail, the room of `out`; and the
-// status, the text and the fault line.
-#[derive(Drop)]
+// A command: its words, the input with the bytes that one read gives and the reads that fail, the calls of the depot that
+// fail, the room of `out`; and the status, the text, the fault line and the directory that is attached.
+#[derive(Clone, Copy, Drop)]
 struct Row<'a> {
     words: &'a str,
     input: &'a str,
     step: usize,
     fails: &'a [u64],
+    depot_fails: &'a [u64],
     room: usize,
     status: Status,
     out: &'a str,
     err: &'a str,
+    path: Option<&'a str>,
 }
 
-// The words of a text, cut at its spaces.
+// A command that writes nothing anywhere.
+const ROW: Row<'static> = Row {
+    words: "",
+    input: "",
+    step: 5,
+    fails: &[],
+    depot_fails: &[],
+    room: 400,
+    status: Status::Done,
+    out: "",
+    err: "",
+    path: None,
+};
+
+// The words of a text, cut at its spaces. Two quotes stand for an empty word.
 fn words_of(alloc: Global, text: &str) -> Result<Vec<String>, Fail> {
     let mut words = Vec::new(alloc);
     for word in text.split(' ') {
-        if !word.is_empty() {
+        if word == "\"\"" {
+            words.push(String::new(alloc))?;
+        } else if !word.is_empty() {
             words.push(String::from_str(alloc, word)?)?;
         }
     }
@@ -36,13 +54,23 @@ fn check(rt: &impl Abort, alloc: Global, row: &Row) -> Result<(), Fail> {
     let mut input = MemSource::new(alloc, row.input.as_bytes(), step, row.fails)
         .ok()
         .expect(rt, "memory");
-    let mut depot = MemDepot::new(alloc, &[]).ok().expect(rt, "memory");
+    let mut depot = MemDepot::new(alloc, row.depot_fails)
+        .ok()
+        .expect(rt, "memory");
     let mut out = MemSink::new(alloc, row.room, &[]).ok().expect(rt, "memory");
     let mut err = MemSink::new(alloc, 99, &[]).ok().expect(rt, "memory");
     let status = lumos(alloc, &words, &mut input, &mut depot, &mut out, &mut err);
     assert_eq!(rt; status, row.status, "{}", row.words);
     assert_eq!(rt; out.bytes(), row.out.as_bytes(), "{}", row.words);
     assert_eq!(rt; err.bytes(), row.err.as_bytes(), "{}", row.words);
+    match row.path {
+        Some(path) => {
+            assert_eq!(rt; depot.path(), Some(path.as_bytes()), "{}", row.words);
+        }
+        None => {
+            assert_eq!(rt; depot.path(), None, "{}", row.words);
+        }
+    }
     Ok(())
 }
 
@@ -86,11 +114,8 @@ fn runs_print_their_reports(rt: HostRuntime) -> Result<(), Fail> {
             words,
             input,
             step: 3,
-            fails: &[],
-            room: 400,
-            status: Status::Done,
             out,
-            err: "",
+            ..ROW
         };
         check(&rt, rt.alloc(), &row)?;
     }
@@ -113,6 +138,24 @@ fn faults_have_their_lines(rt: HostRuntime) -> Result<(), Fail> {
             "",
             Status::Usage,
             "lumos: usage: unknown program\n",
+        ),
+        (
+            "build --parts 2 --dir d",
+            "",
+            Status::Usage,
+            "lumos: usage: words not understood\n",
+        ),
+        (
+            "build --dir \"\" --parts 2",
+            "",
+            Status::Usage,
+            "lumos: usage: empty directory\n",
+        ),
+        (
+            "build --dir d --parts 300",
+            "",
+            Status::Limit,
+            "lumos: limit: parts 300 over 256\n",
         ),
         (
             "run components --parts x --iterations 1",
@@ -203,12 +246,9 @@ fn faults_have_their_lines(rt: HostRuntime) -> Result<(), Fail> {
         let row = Row {
             words,
             input,
-            step: 5,
-            fails: &[],
-            room: 400,
             status,
-            out: "",
             err,
+            ..ROW
         };
         check(&rt, rt.alloc(), &row)?;
     }
@@ -217,23 +257,173 @@ fn faults_have_their_lines(rt: HostRuntime) -> Result<(), Fail> {
         input: FOUR,
         step: 4,
         fails: &[2],
-        room: 400,
         status: Status::ReadFault,
-        out: "",
         err: "lumos: read fault\n",
+        ..ROW
     };
     check(&rt, rt.alloc(), &second_read_fails)?;
     let little_room = Row {
         words: "run components --parts 2 --iterations 5",
         input: FOUR,
-        step: 4,
-        fails: &[],
         room: 10,
         status: Status::WriteFault,
         out: "lumos comp",
         err: "lumos: write fault\n",
+        ..ROW
     };
     check(&rt, rt.alloc(), &little_room)
+}
+
+// A list whose grid over two parts has a vertex more in the first part.
+const FIVE: Row<'static> = Row {
+    words: "build --dir d --parts 2",
+    input: "0 4\n3 1\n",
+    out: "grid vertices 5 edges 2 parts 2\n",
+    path: Some("d"),
+    ..ROW
+};
+
+#[test]
+fn grids_are_built_where_the_words_say(rt: HostRuntime) -> Result<(), Fail> {
+    check(&rt, rt.alloc(), &FIVE)?;
+    let here = Row {
+        words: "build --parts 2",
+        path: Some("."),
+        ..FIVE
+    };
+    check(&rt, rt.alloc(), &here)?;
+    let faulty = Row {
+        input: "0 4\n3\n",
+        status: Status::Input,
+        out: "",
+        err: "lumos: input: line 2: missing target\n",
+        ..FIVE
+    };
+    check(&rt, rt.alloc(), &faulty)?;
+    let little_room = Row {
+        room: 4,
+        status: Status::WriteFault,
+        out: "grid",
+        err: "lumos: write fault\n",
+        ..FIVE
+    };
+    check(&rt, rt.alloc(), &little_room)?;
+    let no_directory = Row {
+        depot_fails: &[1],
+        status: Status::DepotFault,
+        out: "",
+        err: "lumos: depot fault\n",
+        path: None,
+        ..FIVE
+    };
+    check(&rt, rt.alloc(), &no_directory)?;
+    let no_spool = Row {
+        depot_fails: &[2],
+        path: Some("d"),
+        ..no_directory
+    };
+    check(&rt, rt.alloc(), &no_spool)
+}
+
+// Events that go through three iterations, each begun before the one before it is done.
+const EVENTS: &str =
+    "feed 1 0 0\nfeed 1 1 0\nfinal 1 0\nfeed 2 0 0\nfeed 2 0 1\nfeed 1 0 1\nfeed 1 1 1\nfinal 1 1\nfeed 2 1 0\nfinal 2 0\nfeed 3 0 1\nfeed 2 1 1\nfinal 2 1\nfeed 3 0 0\nfeed 3 1 0\nfinal 3 0\nfeed 3 1 1\nfinal 3 1\nedges\n0 1\n";
+
+#[test]
+fn replays_show_the_final_values(rt: HostRuntime) -> Result<(), Fail> {
+    let whole = Row {
+        words: "replay tally --parts 2",
+        input: EVENTS,
+        step: 7,
+        out: "lumos tally vertices 2 edges 1 parts 2\nfinal 0 0\n0 0\nfinal 0 1\n1 0\nfinal 1 0\n0 0\nfinal 1 1\n1 1\nfinal 2 0\n0 0\nfinal 2 1\n1 2\nfinal 3 0\n0 0\nfinal 3 1\n1 3\nevents 18\n",
+        ..ROW
+    };
+    check(&rt, rt.alloc(), &whole)?;
+    let no_edges = Row {
+        input: "# none\n\nedges",
+        out: "lumos tally vertices 0 edges 0 parts 2\nfinal 0 0\nfinal 0 1\nevents 0\n",
+        ..whole
+    };
+    check(&rt, rt.alloc(), &no_edges)?;
+    let little_room = Row {
+        room: 9,
+        status: Status::WriteFault,
+        out: "lumos tal",
+        err: "lumos: write fault\n",
+        ..whole
+    };
+    check(&rt, rt.alloc(), &little_room)
+}
+
+#[test]
+fn replays_stop_at_their_first_fault(rt: HostRuntime) -> Result<(), Fail> {
+    let faults = [
+        (
+            "replay tally --parts 2",
+            "feed 1 0 0\nfeed 1 1 0\nfinal 1 0\nfeed 1 0 1\nfeed 2 1 1\nedges\n0 1\n",
+            Status::Schedule,
+            "lumos: illegal: event 5: source not final\n",
+        ),
+        (
+            "replay components --parts 2",
+            "skip 1 0 1\nedges\n0 1\n",
+            Status::Schedule,
+            "lumos: illegal: event 1: vertex 0 contributes\n",
+        ),
+        (
+            "replay components --parts 2",
+            "feed 1 0 0\nfinal 1 0\nedges\n0 1\n",
+            Status::Schedule,
+            "lumos: illegal: event 2: row 1 not done\n",
+        ),
+        (
+            "replay components --parts 2",
+            "final 1 0\n",
+            Status::Input,
+            "lumos: schedule: line 1: ended\n",
+        ),
+        (
+            "replay components --parts 2",
+            "\nfeed 1 0\nedges\n",
+            Status::Input,
+            "lumos: schedule: line 2: bad\n",
+        ),
+        (
+            "replay components --parts 2",
+            "final 1 0\nedges\n0 1\n0 4096\n",
+            Status::Input,
+            "lumos: input: line 2: vertex too large\n",
+        ),
+        (
+            "replay components --parts 65",
+            "",
+            Status::Limit,
+            "lumos: limit: parts 65 over 64\n",
+        ),
+        (
+            "replay components --parts 0",
+            "",
+            Status::Usage,
+            "lumos: usage: number outside its range for --parts\n",
+        ),
+        (
+            "replay components",
+            "",
+            Status::Usage,
+            "lumos: usage: words not understood\n",
+        ),
+    ];
+    for (words, input, status, err) in faults {
+        let row = Row {
+            words,
+            input,
+            status,
+            err,
+            ..ROW
+        };
+        check(&rt, rt.alloc(), &row)?;
+    }
+    Ok(())
 }
 
 #[test]

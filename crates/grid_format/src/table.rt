@@ -1,5 +1,5 @@
 // The table of a grid's blocks.
-ghost use Rattle.std.specs.Prelude.{◌≡◌, ◌+◌, ◌*◌, ◌^◌, ◌<◌, ◌≤◌, ◌++◌, [], ℕ, List, Some, None, Ok, Err, length, sum, IfOk, IfErr, IsSome, OnOk};
+ghost use Rattle.std.specs.Prelude.{◌≡◌, ◌+◌, ◌*◌, ◌^◌, ◌<◌, ◌≤◌, ◌++◌, [], ℕ, List, Some, None, Ok, Err, length, sum, vec_len, vec_capacity, IfOk, IfErr, IsErrOf, IsSome, OnOk};
 ghost use Rattle.lumos_depot.specs.Causes.{Rose};
 ghost use Rattle.lumos_depot.specs.declared.depot.FileKind.{FileKind};
 ghost use Rattle.grid_format.specs.Checks.{GridFiles, added, counted, head_of};
@@ -11,7 +11,6 @@ use crate::bytes::number_of_eight;
 use crate::counts::{add_column, reach};
 use crate::head::GridInfo;
 use crate::reads::fill;
-use lumos_base::NoMemory;
 use lumos_depot::Depot;
 use std::alloc::Global;
 use std::marker::Model;
@@ -46,33 +45,36 @@ impl Model for BlockTable {
     ghost invariant = { λ t. IsTable t.parts t.counts.items t.places.items };
 }
 
-// Puts the counts in a column's bytes behind those that are there.
-fn push_column(counts: &mut Vec<u64>, bytes: &[u8], parts: usize) -> Result<(), NoMemory>
-    requires { length bytes.now ≡ 8 * parts }
-    ensures { OnOk result (counts.new.items ≡ counts.old.items ++ numbers 0 parts bytes.now) }
+// Puts the counts in a column's bytes behind those that are there. There has to be room for them.
+fn push_column(counts: &mut Vec<u64>, bytes: &[u8], parts: usize)
+    requires whole { length bytes.now ≡ 8 * parts }
+    requires room { vec_len counts.old + parts ≤ vec_capacity counts.old }
+    ensures items { counts.new.items ≡ counts.old.items ++ numbers 0 parts bytes.now }
+    ensures len { vec_len counts.new ≡ vec_len counts.old + parts }
+    ensures room { vec_capacity counts.old ≤ vec_capacity counts.new }
 {
     for i in 0..parts {
         let Ok(()) = counts.push(number_of_eight(bytes, 8 * i)) else {
-            return Err(NoMemory);
+            unreachable!()
         };
     }
-    Ok(())
 }
 
-// Where the blocks with these numbers of edges begin in Primary.
-fn places_of(alloc: Global, counts: &[u64]) -> Result<Vec<u64>, NoMemory>
-    requires { sum counts.now ≤ 2147483648 }
-    ensures { IfOk result (λ places. ArePlaces counts.now places.items) }
+// Puts the places in Primary where the blocks with these numbers of edges begin into an empty list, which has room for
+// them.
+fn push_places(places: &mut Vec<u64>, counts: &[u64])
+    requires sum { sum counts.now ≤ 2147483648 }
+    requires none { vec_len places.old ≡ 0 }
+    requires room { length counts.now ≤ vec_capacity places.old }
+    ensures { ArePlaces counts.now places.new.items }
 {
     let mut total = 0;
-    let mut places = Vec::new(alloc);
     for count in counts {
         let Ok(()) = places.push(12 * total) else {
-            return Err(NoMemory);
+            unreachable!()
         };
         total += *count;
     }
-    Ok(places)
 }
 
 // How many blocks stand before block (i,j).
@@ -102,15 +104,18 @@ fn load_column<D: Depot>(
     requires inside { (meta : List ℕ) → D.holds depot.old FileKind.Meta ≡ Some meta → place + 8 * parts ≤ length meta }
     requires fits { before ≤ edges }
     requires place { 32 ≤ place }
+    requires room { vec_len counts.old + parts ≤ vec_capacity counts.old }
     ensures told { IfOk result (λ total. (meta : List ℕ) → D.holds depot.old FileKind.Meta ≡ Some meta
         → (added edges place before (numbers place parts meta) ≡ Ok total) × (counts.new.items ≡ counts.old.items ++ numbers place parts meta)) }
-    ensures len { OnOk result (length counts.new.items ≡ length counts.old.items + parts) }
+    ensures len { OnOk result (vec_len counts.new ≡ vec_len counts.old + parts) }
+    ensures room { OnOk result (vec_capacity counts.old ≤ vec_capacity counts.new) }
     ensures sum { IfOk result (λ total. sum counts.new.items + before ≡ sum counts.old.items + total) }
     ensures fits { IfOk result (λ total. total ≤ edges) }
     ensures cause { IfErr result (λ fault. OnDepotFault fault (Rose (D.faults depot.old) (D.faults depot.new))) }
     ensures damaged { IfErr result (λ fault. IfDamaged fault (λ p n.
         (32 ≤ p) × (0 < n) × ((meta : List ℕ) → D.holds depot.old FileKind.Meta ≡ Some meta
         → added edges place before (numbers place parts meta) ≡ Err (record { place = p; found = n })))) }
+    ensures memory { IsErrOf result TableFault.NoMemory → ⊥ }
     ensures reads { OnlyReads D.holds D.taken D.stored D.faults D.attached depot.old depot.new }
 {
     let Ok(()) = fill(depot, place, column) else {
@@ -125,9 +130,7 @@ fn load_column<D: Depot>(
             });
         }
     };
-    let Ok(()) = push_column(counts, column, parts) else {
-        return Err(TableFault::NoMemory);
-    };
+    push_column(counts, column, parts);
     Ok(total)
 }
 
@@ -143,6 +146,7 @@ fn load_columns<D: Depot>(
     requires whole { length column.old ≡ 8 * info.parts }
     requires inside { (meta : List ℕ) → D.holds depot.old FileKind.Meta ≡ Some meta → length meta ≡ meta_length info.parts }
     requires none { counts.old.items ≡ [] }
+    requires room { vec_len counts.old + info.parts * info.parts ≤ vec_capacity counts.old }
     ensures told { OnOk result ((meta : List ℕ) → D.holds depot.old FileKind.Meta ≡ Some meta → counts.new.items ≡ counts_of info.parts meta) }
     ensures len { OnOk result (length counts.new.items ≡ info.parts * info.parts) }
     ensures sum { OnOk result (sum counts.new.items ≡ info.edges) }
@@ -150,6 +154,7 @@ fn load_columns<D: Depot>(
     ensures damaged { IfErr result (λ fault. IfDamaged fault (λ p n.
         IsWrongCount info.edges p n × ((meta : List ℕ) → D.holds depot.old FileKind.Meta ≡ Some meta
         → counted info.edges (counts_of info.parts meta) ≡ Err (record { place = p; found = n })))) }
+    ensures memory { IsErrOf result TableFault.NoMemory → ⊥ }
     ensures reads { OnlyReads D.holds D.taken D.stored D.faults D.attached depot.old depot.new }
 {
     let parts = info.parts as usize;
@@ -169,9 +174,9 @@ fn load_columns<D: Depot>(
 
 impl BlockTable {
     /// Reads how many edges each block of a grid has, where the files were found to be a grid's with this head. `Depot`
-    /// comes only where the depot's count of faults rose, and `NoMemory` only where memory ran out. `Damaged` never comes
-    /// over a depot that tells its files: it carries the place and the number with which the counts that were read don't
-    /// add up to the edges. No file changes. The format is our own.
+    /// comes only where the depot's count of faults rose. `NoMemory` comes only where memory ran out, before the depot is
+    /// called. `Damaged` never comes over a depot that tells its files: it carries the place and the number with which the
+    /// counts that were read don't add up to the edges. No file changes. The format is our own.
     pub fn read<D: Depot>(
         alloc: Global,
         depot: &mut D,
@@ -187,17 +192,19 @@ impl BlockTable {
         ensures cause { IfErr result (λ fault. OnDepotFault fault (Rose (D.faults depot.old) (D.faults depot.new))) }
         ensures damaged { IfErr result (λ fault. IfDamaged fault (λ p n.
             IsWrongCount info.edges p n × (D.holds depot.old FileKind.Meta ≡ None))) }
+        ensures memory { IsErrOf result TableFault.NoMemory → depot.new ≡ depot.old }
         ensures reads { OnlyReads D.holds D.taken D.stored D.faults D.attached depot.old depot.new }
     {
         let parts = info.parts as usize;
         let Ok(mut counts) = Vec::with_capacity(alloc, parts * parts) else {
             return Err(TableFault::NoMemory);
         };
-        let mut column = [0; 2048];
-        load_columns(depot, info, &mut column[..8 * parts], &mut counts)?;
-        let Ok(places) = places_of(alloc, &counts) else {
+        let Ok(mut places) = Vec::with_capacity(alloc, parts * parts) else {
             return Err(TableFault::NoMemory);
         };
+        let mut column = [0; 2048];
+        load_columns(depot, info, &mut column[..8 * parts], &mut counts)?;
+        push_places(&mut places, &counts);
         Ok(BlockTable {
             parts: info.parts,
             counts,

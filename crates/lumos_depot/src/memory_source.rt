@@ -1,5 +1,5 @@
 // A source over bytes in memory.
-ghost use Rattle.std.specs.Prelude.{◌≡◌, ◌≤◌, ◌<◌, ◌-◌, [], List, ℕ, length, drop, take, IfOk, OnOk, Option, Some, is_err, if◌then◌else◌};
+ghost use Rattle.std.specs.Prelude.{◌≡◌, ◌≤◌, ◌<◌, ◌-◌, [], List, ℕ, length, drop, take, IfOk, OnErr, Option, Some, is_err, if◌then◌else◌};
 ghost use Rattle.lumos_depot.specs.Causes.{HasCause};
 ghost use Rattle.lumos_depot.specs.Memory.{SourceState, call_fails, given_by, one_more};
 ghost use Rattle.lumos_depot.specs.Streams.{ReadGives};
@@ -59,8 +59,8 @@ impl Source for MemSource {
 
     ghost faults = { λ s. s.faults };
 
-    /// Gives as many bytes as the step, the buffer and the end of the bytes allow. A call that is named answers
-    /// `Failed`, counts a fault, and takes nothing.
+    /// Gives as many bytes as the step, the buffer and the end of the bytes allow, and leaves what stands behind them in
+    /// the buffer. A call that is named answers `Failed`, counts a fault, takes nothing, and leaves the buffer.
     fn read(&mut self, buf: &mut [u8]) -> Result<usize, Failed>
         requires { 0 < length buf.old }
         ensures bound { IfOk result (λ n. n ≤ length buf.old) }
@@ -68,6 +68,8 @@ impl Source for MemSource {
         ensures cause { HasCause self.old.faults self.new.faults result }
         ensures fails { is_err result ≡ call_fails self.old.fails self.old.calls }
         ensures count { IfOk result (λ n. n ≡ given_by self.old (length buf.old)) }
+        ensures behind { IfOk result (λ n. drop n buf.new ≡ drop n buf.old) }
+        ensures buffer { OnErr result (buf.new ≡ buf.old) }
         ensures after { self.new ≡ record self.old {
           left = if is_err result then self.old.left else drop (given_by self.old (length buf.old)) self.old.left;
           calls = one_more self.old.calls;

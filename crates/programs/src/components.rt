@@ -1,4 +1,4 @@
-// The least vertex from which a walk leads here.
+// The least label, spread along the edges.
 ghost use Rattle.std.specs.Prelude.{◌≡◌, refl, codes};
 ghost use Rattle.std.proofs.Common.{rules};
 ghost use Rattle.programs.specs.Components.{IsLabel, label_bytes, label_from, components_program};
@@ -64,9 +64,8 @@ impl Fixed for Label {
     }
 }
 
-/// Spreads the least vertex along the edges: a vertex ends with the least one from which a walk leads to it, itself
-/// among them. Over a list with each edge in both directions these are the connected components. The textbook spreads
-/// labels so; that a vertex contributes only a label that is news is our own.
+/// Spreads the least label along the edges, as the textbook finds connected components in a list with each edge in both
+/// directions. That a vertex contributes only a label that is news is our own.
 ///
 /// A vertex starts with itself as its label, which is fresh. It contributes its label where that is fresh. The least of
 /// its label and of what it is given is its next label, which is fresh where it is less than before. No vertex is ever

@@ -1,7 +1,7 @@
-use Rattle.std.proofs.Common.{◌+◌, ◌++◌, sum, length, ap, sym, ◌∙◌, arith, length-append}
+use Rattle.std.proofs.Common.{◌++◌, sum, ap, sym, ◌∙◌, arith}
 use Rattle.std.proofs.lemmas.List.Sums.{sum_by-append}
 use Rattle.grid_format.specs.Heads.{numbers}
-use Rattle.grid_format.proofs.NumberLemmas.{added_sum, column_numbers, column_read, length-numbers}
+use Rattle.grid_format.proofs.NumberLemmas.{added_sum, column_numbers, column_read}
 use Rattle.grid_format.proofs.table.load_column.Goals as goal
 
 pub returns-in-Err-clause-damaged : goal.returns-in-Err-clause-damaged
@@ -17,17 +17,12 @@ pub returns-clause-told : goal.returns-clause-told
 returns-clause-told g c = λ meta is.
     let read = c.in-Ok.ensures.value meta is in (
       column_read c.args.edges c.args.place c.args.before c.args.parts _ meta _ read (omega arith) ∙ sym c.add_column.ensures.value ∙ c.in-Ok-add_column.is,
-      c.in-Ok-push_column.ensures ∙ ap (λ l. c.args.counts.now.items ++ l) (sym (column_numbers c.args.place c.args.parts _ meta _ read (omega arith))),
+      c.push_column.ensures.items ∙ ap (λ l. c.args.counts.now.items ++ l) (sym (column_numbers c.args.place c.args.parts _ meta _ read (omega arith))),
     )
-
-pub returns-clause-len : goal.returns-clause-len
-returns-clause-len g c =
-    let new = numbers 0 c.args.parts c.fill.new.buf in
-    ap length c.in-Ok-push_column.ensures ∙ length-append c.args.counts.now.items new ∙ ap (λ n. length c.args.counts.now.items + n) (length-numbers 0 c.args.parts c.fill.new.buf)
 
 pub returns-clause-sum : goal.returns-clause-sum
 returns-clause-sum g c =
     let new = numbers 0 c.args.parts c.fill.new.buf in
-    let all = ap sum c.in-Ok-push_column.ensures ∙ sum_by-append (λ x. x) c.args.counts.now.items new in
+    let all = ap sum c.push_column.ensures.items ∙ sum_by-append (λ x. x) c.args.counts.now.items new in
     let total = added_sum c.args.edges c.args.place c.args.before c.in-Ok-add_column.total new (sym c.add_column.ensures.value ∙ c.in-Ok-add_column.is) in
     omega (arith, all, total)

@@ -36,6 +36,7 @@ loop-j-preserved g c =
       fits = c.in_ok-total.ensures.fits;
       sums = omega (arith, c.in_ok-total.ensures.sum, c.loop-j.invariant.sums);
       long = omega (arith, c.in_ok-total.ensures.len, c.loop-j.invariant.long, add-mul j 1 parts);
+      room = omega (arith, c.loop-j.invariant.room, c.in_ok-total.ensures.room);
       rest = λ meta is.
           let told = c.in_ok-total.ensures.told meta (c.loop-j.invariant.reads.contents Meta ∙ is) in
           let next : ℕ → Result ℕ Mismatch = λ t. added edges (32 + 8 * ((j + 1) * parts)) t (numbers (32 + 8 * ((j + 1) * parts)) (parts * parts - (j + 1) * parts) meta) in

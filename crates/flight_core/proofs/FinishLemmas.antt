@@ -1,11 +1,12 @@
 -- Ranges of vertices, one after the other, in what `finalise` says and sets.
 use Rattle.std.proofs.Common.{◌≡◌, ◌⊎◌, ℕ, zero, suc, ◌+◌, ◌<◌, ◌≤◌, Bool, true, false, cond, ◌||◌, List, ◌∷◌, ◌++◌, length, get_or, set, take, Option, Some, None, count_by, find, option_map, refl, sym, ap, ◌∙◌, inl, inr, arith}
 use Rattle.std.specs.List.{range_with_len, list_any}
+use Rattle.std.specs.Option.{option_or}
 use Rattle.std.proofs.lemmas.Bool.{cases_eq}
 use Rattle.std.proofs.lemmas.List.{length-set, length-take, get_or-take, get_or-set_same, get_or-set_other}
 use Rattle.std.proofs.lemmas.List.Folds.{find-append, list_any-append}
 use Rattle.std.proofs.lemmas.List.Sums.{sum_by-append}
-use Rattle.flight_core.specs.Finish.{applied, finish_of, first_of_two, joined_end, vertex_end, noted_end}
+use Rattle.flight_core.specs.Finish.{applied, finish_of, joined_end, vertex_end, noted_end}
 use Rattle.flight_core.specs.declared.steps.Finish.{Finish}
 use Rattle.lumos_base.specs.Records.{vertex_of}
 use Rattle.lumos_base.specs.declared.records.Vertex.{Vertex}
@@ -23,7 +24,7 @@ range_cut a (suc n) m =
     ap (λ (k : ℕ). range_with_len a k) length
     ∙ ap (λ l. a ∷ l) (range_cut (a + 1) n m ∙ ap (λ (b : ℕ). range_with_len (a + 1) n ++ range_with_len b m) place)
 
-mapped_two : (l m : Option ℕ) → option_map vertex_of (first_of_two l m) ≡ first_of_two (option_map vertex_of l) (option_map vertex_of m)
+mapped_two : (l m : Option ℕ) → option_map vertex_of (option_or l m) ≡ option_or (option_map vertex_of l) (option_map vertex_of m)
 mapped_two (Some x) m = refl
 mapped_two None m = refl
 

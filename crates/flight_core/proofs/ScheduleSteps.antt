@@ -8,7 +8,7 @@ use Rattle.edge_text.proofs.LineEnds.{lines-append, lines-both, lines-ended, lin
 use Rattle.edge_text.proofs.Steps.{line_taken}
 use Rattle.flight_core.specs.Schedule.{Found, behind_lines, line_then, read_lines, schedule, schedule_with, told, too_long}
 use Rattle.flight_core.specs.ScheduleLine.{said_by}
-use Rattle.flight_core.specs.ScheduleRead.{HasFault, HasRead, IsEnded, IsFaultOf, IsWithin, ScheduleState}
+use Rattle.flight_core.specs.ScheduleRead.{HasFault, HasRead, HasStopped, IsEnded, IsFaultOf, IsWithin, ScheduleState, StopsAt, StopsIn}
 use Rattle.flight_core.specs.declared.event.Event.{Event}
 use Rattle.flight_core.specs.declared.said.Said.TheVariants.{Does, Edges, Unclear}
 use Rattle.flight_core.specs.declared.schedule.ScheduleFault.{ScheduleFault}
@@ -254,3 +254,50 @@ part_taken seen text part used n is =
 pub part_whole : (seen text part : List ℕ) (used : ℕ) → part ≡ drop used text → (seen ++ take used text) ++ part ≡ seen ++ text
 part_whole seen text part used is =
     append_assoc seen (take used text) part ∙ ap (λ p. seen ++ (take used text ++ p)) is ∙ ap (λ t. seen ++ t) (take-append-drop used text)
+
+-- where a reader is stopped: at the end of its line,
+pub stopped_end : (seen : List ℕ) (reader : ScheduleState) (fault : ScheduleFault) → IsWithin seen reader → StopsAt reader.line (length (lines_of seen)) reader.events fault → StopsIn seen (seen ++ 10 ∷ []) reader.events fault
+stopped_end seen reader fault within stops = λ more. record {
+  front = lines_of seen;
+  line = rest_of seen;
+  behind = lines_with too_long more;
+  lines = ap (lines_with too_long) (append_assoc seen (10 ∷ []) more) ∙ with-append too_long seen (10 ∷ more) ∙ ap (λ ls. lines_of seen ++ ls) (with-ended too_long (rest_of seen) more (lines-rest seen));
+  later = omega arith;
+  good = within.events;
+  stops = subst (λ l. StopsAt l (length (lines_of seen)) reader.events fault) within.line stops;
+}
+
+-- or where it is too long
+pub stopped_long : (seen bytes : List ℕ) (reader : ScheduleState) → IsWithin seen reader → lines_of bytes ≡ [] → 128 < length reader.line + length bytes → StopsIn seen (seen ++ bytes) reader.events (Bad (told (suc (length (lines_of seen)))))
+stopped_long seen bytes reader within unended long = λ more.
+    let size = ap length within.line in
+    let all = length-append (rest_of seen) bytes in
+    let f = first_line too_long (rest_of seen ++ bytes) more long_counts (lines-both (rest_of seen) bytes (lines-rest seen) unended) (omega arith) in
+    let larger = length-append (rest_of seen ++ bytes) f.first in
+    record {
+      front = lines_of seen;
+      line = (rest_of seen ++ bytes) ++ f.first;
+      behind = f.others;
+      lines =
+          ap (lines_with too_long) (append_assoc seen bytes more)
+          ∙ with-append too_long seen (bytes ++ more)
+          ∙ ap (λ ls. lines_of seen ++ ls) (ap (lines_with too_long) (sym (append_assoc (rest_of seen) bytes more)) ∙ f.is);
+      later = omega arith;
+      good = within.events;
+      stops = (long_said ((rest_of seen ++ bytes) ++ f.first) (omega arith), refl);
+    }
+
+-- also in a longer text,
+pub stopped_in : (seen text : List ℕ) (len : ℕ) (events : List Event) (fault : ScheduleFault) → StopsIn seen (seen ++ take len text) events fault → StopsIn seen (seen ++ text) events fault
+stopped_in seen text len events fault h = λ more.
+    subst (λ t. HasStopped seen t events fault)
+    (sym (append_assoc (seen ++ take len text) (drop len text) more) ∙ ap (λ t. t ++ more) (append_assoc seen (take len text) (drop len text) ∙ ap (λ t. seen ++ t) (take-append-drop len text)))
+    (h (drop len text ++ more))
+
+-- and behind fewer bytes
+pub stopped_behind : (seen part text : List ℕ) (events : List Event) (fault : ScheduleFault) → StopsIn (seen ++ part) text events fault → StopsIn seen text events fault
+stopped_behind seen part text events fault h = λ more.
+    let s = h more in
+    let lines = ap length (lines-append seen part) ∙ length-append (lines_of seen) (lines_of (rest_of seen ++ part)) in
+    let later = s.later in
+    record { front = s.front; line = s.line; behind = s.behind; lines = s.lines; later = omega arith; good = s.good; stops = s.stops }

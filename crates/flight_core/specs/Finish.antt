@@ -1,5 +1,5 @@
 -- How the next values of a range of vertices come out.
-use Rattle.std.specs.Prelude.{ℕ, ◌+◌, Bool, ◌||◌, if◌then◌else◌, Option, Some, None, count_by, find, option_map}
+use Rattle.std.specs.Prelude.{ℕ, ◌+◌, Bool, ◌||◌, if◌then◌else◌, Some, None, count_by, find, option_map}
 use Rattle.std.specs.List.{range_with_len, list_any}
 use Rattle.std.specs.Option.{option_or}
 use Rattle.flight_core.specs.declared.steps.Finish.{Finish}
@@ -20,16 +20,12 @@ module _ {V S : Type 0} (p : Program V S) (state : ℕ → V) (sum : ℕ → S) 
     over = option_map vertex_of (find (λ v. p.over v (state v) (sum v)) (range_with_len first n));
   }
 
--- the first of two where there is one, and else the second
-abbrev pub first_of_two : {X : Type 0} → Option X → Option X → Option X
-first_of_two a b = option_or a b
-
 -- one range of vertices, and the next
 abbrev pub joined_end : Finish → Finish → Finish
 joined_end end next = record {
   moved = end.moved + next.moved;
   hot = end.hot || next.hot;
-  over = first_of_two end.over next.over;
+  over = option_or end.over next.over;
 }
 
 -- one vertex alone

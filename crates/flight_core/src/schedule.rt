@@ -1,9 +1,9 @@
 // The reader of a schedule.
-ghost use Rattle.std.specs.Prelude.{◌≡◌, ◌≤◌, ◌<◌, ◌+◌, ◌-◌, ◌^◌, min, ◌⊎◌, ℕ, List, [], ◌∷◌, ◌++◌, length, take, slice_index, true, false, IfOk, MatchResult, MatchOption, Option, Some, None, Ok, Err};
+ghost use Rattle.std.specs.Prelude.{◌≡◌, ◌≤◌, ◌<◌, ◌+◌, ◌-◌, ◌^◌, min, ◌⊎◌, ℕ, List, [], ◌∷◌, ◌++◌, length, take, slice_index, true, false, IfOk, IfErr, OnErr, MatchResult, MatchOption, Option, Some, None, Ok, Err};
 ghost use Rattle.edge_text.specs.Lines.{lines_of};
 ghost use Rattle.flight_core.specs.Schedule.{schedule};
 ghost use Rattle.flight_core.specs.ScheduleLine.{said_by};
-ghost use Rattle.flight_core.specs.ScheduleRead.{HasRead, IsFaultOf, IsWithin};
+ghost use Rattle.flight_core.specs.ScheduleRead.{HasRead, IsFaultOf, IsWithin, StopsIn};
 ghost use Rattle.flight_core.specs.declared.said.Said.TheVariants.{Does};
 ghost use Rattle.flight_core.specs.declared.schedule.ScheduleFault.{ScheduleFault};
 
@@ -85,7 +85,9 @@ impl ScheduleReader {
         requires said { said_by self.old.line ≡ Does event }
         ensures reads { (seen : List ℕ) → HasRead seen self.old
             → MatchResult result (λ _. HasRead (seen ++ 10 ∷ []) self.new) (λ fault. IsFaultOf (seen ++ 10 ∷ []) fault) }
+        ensures stopped { (seen : List ℕ) → HasRead seen self.old → IfErr result (StopsIn seen (seen ++ 10 ∷ []) self.new.events) }
         ensures kept { MatchResult result (λ _. self.new.fault ≡ self.old.fault) (λ fault. self.new.fault ≡ Some fault) }
+        ensures incomplete { OnErr result (self.new.complete ≡ false) }
     {
         if self.events.len() >= 100000 {
             let fault = ScheduleFault::TooManyEvents { limit: 100000 };
@@ -110,7 +112,9 @@ impl ScheduleReader {
         requires { self.old.complete ≡ false }
         ensures reads { (seen : List ℕ) → HasRead seen self.old
             → MatchResult result (λ _. HasRead (seen ++ 10 ∷ []) self.new) (λ fault. IsFaultOf (seen ++ 10 ∷ []) fault) }
+        ensures stopped { (seen : List ℕ) → HasRead seen self.old → IfErr result (StopsIn seen (seen ++ 10 ∷ []) self.new.events) }
         ensures kept { MatchResult result (λ _. self.new.fault ≡ self.old.fault) (λ fault. self.new.fault ≡ Some fault) }
+        ensures incomplete { OnErr result (self.new.complete ≡ false) }
     {
         let number = self.lines.saturating_add(1);
         match said_in_line(&self.line) {
@@ -138,6 +142,7 @@ impl ScheduleReader {
         requires unended { lines_of bytes.now ≡ [] }
         ensures reads { (seen : List ℕ) → HasRead seen self.old
             → MatchResult result (λ _. HasRead (seen ++ bytes.now) self.new) (λ fault. IsFaultOf (seen ++ bytes.now) fault) }
+        ensures stopped { (seen : List ℕ) → HasRead seen self.old → IfErr result (StopsIn seen (seen ++ bytes.now) self.new.events) }
         ensures kept { MatchResult result (λ _. self.new.fault ≡ self.old.fault) (λ fault. self.new.fault ≡ Some fault) }
         ensures going { self.new.complete ≡ false }
     {
@@ -158,7 +163,9 @@ impl ScheduleReader {
         ensures reads { (seen : List ℕ) → HasRead seen self.old
             → MatchResult result (λ used. HasRead (seen ++ take used text.now) self.new) (λ fault. IsFaultOf (seen ++ text.now) fault) }
         ensures within { IfOk result (λ used. (0 < used) × (used ≤ length text.now)) }
+        ensures stopped { (seen : List ℕ) → HasRead seen self.old → IfErr result (StopsIn seen (seen ++ text.now) self.new.events) }
         ensures kept { MatchResult result (λ _. self.new.fault ≡ self.old.fault) (λ fault. self.new.fault ≡ Some fault) }
+        ensures incomplete { OnErr result (self.new.complete ≡ false) }
     {
         let len = line_length(text);
         match self.extend_line(&text[..len]) {
@@ -180,15 +187,18 @@ impl ScheduleReader {
     ///
     /// Its faults are the text's, whatever comes behind the piece: `Bad` when the end of such a line was read, or its
     /// byte 129, and `TooManyEvents` when the end of that event's line was read. `NoMemory` comes only where memory ran
-    /// out. After a fault each later call answers it.
+    /// out for the event of a line that ends in the piece, and that line and those before it have no fault. After a fault
+    /// the events are those of the lines before its own, and each later call answers the fault.
     pub fn feed(&mut self, piece: &[u8]) -> Result<usize, ScheduleFault>
         ensures reads { (seen : List ℕ) → HasRead seen self.old
             → MatchResult result (λ used. HasRead (seen ++ take used piece.now) self.new) (λ fault. IsFaultOf (seen ++ piece.now) fault) }
+        ensures stopped { (seen : List ℕ) → HasRead seen self.old → IfErr result (StopsIn seen (seen ++ piece.now) self.new.events) }
         ensures within { IfOk result (λ used. used ≤ length piece.now) }
         ensures stops { IfOk result (λ used. (used ≡ length piece.now) ⊎ (self.new.complete ≡ true)) }
         ensures over { self.old.fault ≡ None → self.old.complete ≡ true → (result ≡ Ok 0) × (self.new ≡ self.old) }
         ensures again { (fault : ScheduleFault) → self.old.fault ≡ Some fault → (result ≡ Err fault) × (self.new ≡ self.old) }
         ensures kept { MatchResult result (λ _. self.new.fault ≡ None) (λ fault. self.new.fault ≡ Some fault) }
+        ensures incomplete { OnErr result (self.new.complete ≡ self.old.complete) }
     {
         if let Some(fault) = self.fault {
             return Err(fault);
@@ -241,6 +251,7 @@ impl ScheduleReader {
         ensures over { self.old.fault ≡ None → self.old.complete ≡ true → (result ≡ Ok tt) × (self.new ≡ self.old) }
         ensures again { (fault : ScheduleFault) → self.old.fault ≡ Some fault → (result ≡ Err fault) × (self.new ≡ self.old) }
         ensures kept { MatchResult result (λ _. self.new.fault ≡ None) (λ fault. self.new.fault ≡ Some fault) }
+        ensures incomplete { OnErr result (self.new.complete ≡ self.old.complete) }
     {
         if let Some(fault) = self.fault {
             return Err(fault);

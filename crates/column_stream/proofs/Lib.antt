@@ -1,0 +1,4 @@
+pub mod BlockLemmas
+pub mod EdgeLemmas
+pub mod FaultLemmas
+pub mod ReadLemmas

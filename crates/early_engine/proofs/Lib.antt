@@ -1,0 +1,11 @@
+pub mod GridLemmas
+pub mod MadeLemmas
+pub mod Moving
+pub mod OpenLemmas
+pub mod OverLemmas
+pub mod PassLemmas
+pub mod Repeats
+pub mod RunLemmas
+pub mod StandLemmas
+pub mod StartLemmas
+pub mod TurnLemmas

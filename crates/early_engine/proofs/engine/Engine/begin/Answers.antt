@@ -1,0 +1,42 @@
+use Rattle.std.proofs.Common.{◌++◌, Ok, Err, length, drop, take, refl, sym, ap, ◌∙◌, subst, arith}
+use Rattle.std.proofs.lemmas.List.{take_at}
+use Rattle.early_engine.specs.Engines.{IsOpened, cut_in}
+use Rattle.early_engine.specs.Starts.{StartComes}
+use Rattle.early_engine.proofs.StandLemmas.{stands_first}
+use Rattle.early_engine.proofs.engine.Engine.begin.Goals as goal
+
+pub returns-in-Ok-clause-told : goal.returns-in-Ok-clause-told
+returns-in-Ok-clause-told g c edges =
+    let model = g.G.VertexProgram.model in
+    let name = g.G.VertexProgram.name_text in
+    let told = g.D.Depot.holds c.args.depot.now in
+    let held = g.O.Sink.written c.args.out.now in
+    let after = g.O.Sink.written c.make_start.new.out in
+    let values = c.make_start.new.values in
+    let was = c.self.inside.room.before in
+    let put = c.make_start.auto.values ∙ c.deref_mut.ensures.len in
+    subst (λ w. IsOpened edges told w → StartComes (model w.program) (name w.program) w.options.show edges (cut_in w.info) (take was.len (values ++ drop (length values) was.items)) held after (Ok tt)) c.self.view_is
+    (λ opened. rw (take_at values (drop (length values) was.items) was.len put) (c.in-Ok.ensures.told edges c.self.inside.layout.table opened.grid opened.head))
+
+pub returns-in-Err-clause-told : goal.returns-in-Err-clause-told
+returns-in-Err-clause-told g c edges =
+    let model = g.G.VertexProgram.model in
+    let name = g.G.VertexProgram.name_text in
+    let told = g.D.Depot.holds c.args.depot.now in
+    let held = g.O.Sink.written c.args.out.now in
+    let after = g.O.Sink.written c.make_start.new.out in
+    let values = c.make_start.new.values in
+    let was = c.self.inside.room.before in
+    let put = c.make_start.auto.values ∙ c.deref_mut.ensures.len in
+    subst (λ w. IsOpened edges told w → StartComes (model w.program) (name w.program) w.options.show edges (cut_in w.info) (take was.len (values ++ drop (length values) was.items)) held after (Err c.in-Err.fault)) c.self.view_is
+    (λ opened. subst (λ xs. StartComes (model c.self.inside.program) (name c.self.inside.program) c.self.inside.options.show edges (cut_in c.self.inside.info) xs held after (Err c.in-Err.fault))
+    (sym (take_at values (drop (length values) was.items) was.len put)) (c.in-Err.ensures.told edges c.self.inside.layout.table opened.grid opened.head))
+
+pub returns-in-Ok-clause-stands : goal.returns-in-Ok-clause-stands
+returns-in-Ok-clause-stands g c edges opened ok =
+    let model = g.G.VertexProgram.model in
+    let was = c.self.view_is in
+    let none = c.self.invariant.counted.none (ap (λ w. w.phase) was ∙ c.requires.fresh) in
+    stands_first (model c.args.self.now.program) edges (g.D.Depot.holds c.args.depot.now) (g.D.Depot.holds c.make_start.new.depot) c.args.self.now _ c.in-Ok.ensures.reads.contents
+    (record { program = ap (λ w. w.program) was; options = ap (λ w. w.options) was; info = ap (λ w. w.info) was; table = ap (λ w. w.table) was })
+    refl none (omega (arith, c.self.invariant.counted.some)) opened (returns-in-Ok-clause-told g c edges opened).0

@@ -1,0 +1,6 @@
+use Rattle.std.proofs.Common.{◌<◌, ◌≤◌, ℕ}
+use Rattle.grid_format.specs.Tables.{count_at}
+use Rattle.early_engine.proofs.open.longest_in.Given as goal
+
+abbrev pub invariant-loop-i : goal.invariant-loop-i
+invariant-loop-i l = (i : ℕ) → i < l.i → count_at l.layout.table i l.j ≤ l.most

@@ -1,0 +1,28 @@
+use Rattle.std.proofs.Common.{sym, ◌∙◌}
+use Rattle.grid_format.specs.Grid.{grid}
+use Rattle.early_engine.specs.Engines.{cut_in}
+use Rattle.early_engine.proofs.GridLemmas.{on_grid_same}
+use Rattle.early_engine.proofs.open.read_layout.Goals as goal
+
+pub returns-in-Ok-clause-told : goal.returns-in-Ok-clause-told
+returns-in-Ok-clause-told g c edges numbers limits held =
+    let info = c.args.info in
+    let read = c.grids_are_read.ensures edges info.vertices info.parts limits in
+    let counts = c.in-Ok.ensures.told (grid edges info.vertices info.parts) held ∙ read.counts in
+    let parts = c.in-Ok.ensures.parts in
+    on_grid_same edges (cut_in info) c.in-Ok.table _ _ c.in-Ok.ensures.reads.contents
+    (record { numbers = numbers; limits = limits; files = held; counts = λ i. record { parts = parts i; counts = counts i } })
+
+pub returns-in-Ok-clause-head : goal.returns-in-Ok-clause-head
+returns-in-Ok-clause-head g c edges limits held =
+    let info = c.args.info in
+    let read = c.grids_are_read.ensures edges info.vertices info.parts limits in
+    let same = sym (c.requires.accepted (grid edges info.vertices info.parts) held) ∙ read.head in
+    cc
+
+pub returns-in-Err-clause-head : goal.returns-in-Err-clause-head
+returns-in-Err-clause-head g c edges limits held =
+    let info = c.args.info in
+    let read = c.grids_are_read.ensures edges info.vertices info.parts limits in
+    let same = sym (c.requires.accepted (grid edges info.vertices info.parts) held) ∙ read.head in
+    cc

@@ -1,0 +1,94 @@
+use Rattle.std.proofs.Common.{◌≡◌, ◌+◌, ℕ, suc, Ok, Err, sym, ap, ◌∙◌, subst, arith}
+use Rattle.lumos_depot.specs.Streams.{after_told}
+use Rattle.lumos_depot.specs.declared.depot.FileKind.TheVariants.{Primary}
+use Rattle.value_files.specs.Outside.{RoseBy}
+use Rattle.early_engine.specs.Engines.{IsStanding, cut_in}
+use Rattle.early_engine.specs.Runs.{RunComes}
+use Rattle.early_engine.specs.Turns.{HasTurned, phase_after}
+use Rattle.early_engine.specs.declared.options.RunOptions.{RunOptions}
+use Rattle.early_engine.proofs.Moving.{reads_then}
+use Rattle.early_engine.proofs.Repeats.{texts}
+use Rattle.early_engine.proofs.RunLemmas.{bytes_in, end_of, ended_comes, going_text, key_of, later_of, lines_of, rose_next, same_key, same_run, stopped_comes}
+use Rattle.early_engine.proofs.run.run_turns.Goals as goal
+
+pub returns-in-Ok-Ended-clause-told : goal.returns-in-Ok-Ended-clause-told
+returns-in-Ok-Ended-clause-told g c edges stands =
+    let model = g.G.VertexProgram.model in
+    let w = c.loop-turn.engine in
+    let told = g.D.Depot.holds c.loop-turn.depot in
+    let written = g.O.Sink.written c.args.out.now in
+    let now = g.O.Sink.written c.loop-turn.out in
+    let after = g.O.Sink.written c.turn.new.out in
+    let run = c.loop-turn.invariant.running edges stands in
+    let key = same_key c.args.engine.now w c.loop-turn.invariant.same in
+    let here = subst (λ k. IsStanding (model k.program) edges told w) (sym key) run.stands in
+    let text = subst (λ k. now ≡ after_told written (texts (lines_of model edges k) w.finished)) (sym key) run.text in
+    let turned = subst (HasTurned (model w.program) w.options.show edges (cut_in w.info) w.options.iterations w.finished c.turn.new.self.values now after) c.in-Ok-Ended.field-0-is (c.in-Ok-Ended.ensures.told edges here) in
+    subst (λ k. RunComes (end_of model edges k) (later_of model edges k) written after (Ok c.in-Ok-Ended.ending)) key
+    (ended_comes (model w.program) w.options.show edges (cut_in w.info) w.options.iterations w.finished here.goes_on written now after c.turn.new.self.values c.in-Ok-Ended.ending text turned)
+
+pub returns-in-Ok-Ended-clause-taken : goal.returns-in-Ok-Ended-clause-taken
+returns-in-Ok-Ended-clause-taken g c edges stands =
+    let model = g.G.VertexProgram.model in
+    let w = c.loop-turn.engine in
+    let told = g.D.Depot.holds c.loop-turn.depot in
+    let now = g.O.Sink.written c.loop-turn.out in
+    let after = g.O.Sink.written c.turn.new.out in
+    let run = c.loop-turn.invariant.running edges stands in
+    let key = same_key c.args.engine.now w c.loop-turn.invariant.same in
+    let here = subst (λ k. IsStanding (model k.program) edges told w) (sym key) run.stands in
+    let turned = subst (HasTurned (model w.program) w.options.show edges (cut_in w.info) w.options.iterations w.finished c.turn.new.self.values now after) c.in-Ok-Ended.field-0-is (c.in-Ok-Ended.ensures.told edges here) in
+    let last : c.in-Ok-Ended.ending.iterations ≡ suc w.finished = turned.tells.1 in
+    rose_next model edges (key_of c.args.engine.now) w.finished c.in-Ok-Ended.ending.iterations _ _ _ (omega arith) run.rose
+    (subst (λ k. RoseBy (g.D.Depot.taken c.loop-turn.depot Primary) (g.D.Depot.taken c.turn.new.depot Primary) (bytes_in model edges k)) key (c.in-Ok-Ended.ensures.taken edges here))
+
+pub returns-in-Err-clause-told : goal.returns-in-Err-clause-told
+returns-in-Err-clause-told g c edges stands =
+    let model = g.G.VertexProgram.model in
+    let w = c.loop-turn.engine in
+    let told = g.D.Depot.holds c.loop-turn.depot in
+    let written = g.O.Sink.written c.args.out.now in
+    let now = g.O.Sink.written c.loop-turn.out in
+    let after = g.O.Sink.written c.turn.new.out in
+    let run = c.loop-turn.invariant.running edges stands in
+    let key = same_key c.args.engine.now w c.loop-turn.invariant.same in
+    let here = subst (λ k. IsStanding (model k.program) edges told w) (sym key) run.stands in
+    let text = subst (λ k. now ≡ after_told written (texts (lines_of model edges k) w.finished)) (sym key) run.text in
+    subst (λ k. RunComes (end_of model edges k) (later_of model edges k) written after (Err c.in-Err.fault)) key
+    (stopped_comes (model w.program) w.options.show edges (cut_in w.info) w.options.iterations w.finished here.goes_on written now after c.turn.new.self.values c.in-Err.fault text (c.in-Err.ensures.told edges here))
+
+pub loop-turn-preserved : goal.loop-turn-preserved
+loop-turn-preserved g c =
+    let model = g.G.VertexProgram.model in
+    let w = c.loop-turn.engine in
+    let new = c.turn.new.self in
+    let kept = c.loop-turn.invariant in
+    let next = c.in-Ok-Going.ensures in
+    let going = next.phase ∙ ap phase_after c.in-Ok-Going.field-0-is in
+    let same = same_run c.args.engine.now w new kept.same next.same in
+    let low = next.left going in
+    record {
+      reads = reads_then g.D.Depot.holds g.D.Depot.taken g.D.Depot.stored g.D.Depot.faults g.D.Depot.attached Primary _ _ _ kept.reads next.reads;
+      later = omega (arith, kept.later, next.later);
+      going = going;
+      same = same;
+      counted = next.finished ∙ ap (λ (k : ℕ). k + 1) kept.counted;
+      left = omega (arith, low, ap (λ (o : RunOptions). o.iterations) same.options, c.requires.all);
+      running = λ edges stands.
+          let told = g.D.Depot.holds c.loop-turn.depot in
+          let written = g.O.Sink.written c.args.out.now in
+          let now = g.O.Sink.written c.loop-turn.out in
+          let after = g.O.Sink.written c.turn.new.out in
+          let run = kept.running edges stands in
+          let key = same_key c.args.engine.now w kept.same in
+          let here = subst (λ k. IsStanding (model k.program) edges told w) (sym key) run.stands in
+          let text = subst (λ k. now ≡ after_told written (texts (lines_of model edges k) w.finished)) (sym key) run.text in
+          let turned = subst (HasTurned (model w.program) w.options.show edges (cut_in w.info) w.options.iterations w.finished new.values now after) c.in-Ok-Going.field-0-is (next.told edges here) in
+          let written_on = going_text (model w.program) w.options.show edges (cut_in w.info) w.options.iterations w.finished here.goes_on written now after new.values text turned in
+          record {
+            stands = subst (λ k. IsStanding (model k.program) edges (g.D.Depot.holds c.turn.new.depot) new) key (c.turn.ensures.stands edges here (c.in-Ok-Going.is ∙ ap Ok c.in-Ok-Going.field-0-is));
+            text = subst (λ k. after ≡ after_told written (texts (lines_of model edges k) new.finished)) key (written_on ∙ ap (λ (t : ℕ). after_told written (texts (lines_of model edges (key_of w)) t)) (sym next.finished));
+            rose = rose_next model edges (key_of c.args.engine.now) w.finished new.finished _ _ _ next.finished run.rose
+                (subst (λ k. RoseBy (g.D.Depot.taken c.loop-turn.depot Primary) (g.D.Depot.taken c.turn.new.depot Primary) (bytes_in model edges k)) key (next.taken edges here));
+          };
+    }

@@ -1,0 +1,51 @@
+-- The grid whose blocks an iteration reads, and why they weren't read.
+use Rattle.std.specs.Prelude.{◌≡◌, ◌≤◌, ◌<◌, ⊤, ℕ, ◌*◌, List, length, sum, All, Option}
+use Rattle.lumos_base.specs.Records.{IsEdge}
+use Rattle.lumos_base.specs.declared.records.Edge.{Edge}
+use Rattle.lumos_depot.specs.declared.depot.FileKind.{FileKind}
+use Rattle.lumos_depot.specs.declared.depot.FileKind.TheVariants.{Primary}
+use Rattle.partition.specs.Parts.{Cut, chunk_of, part_range}
+use Rattle.grid_format.specs.Grid.{HasGrid, grid, grid_table}
+use Rattle.grid_format.specs.Outside.{Holds}
+use Rattle.grid_format.specs.Tables.{BlockCounts, count_at, primary_place_of}
+use Rattle.value_files.specs.declared.fault.FileFault.{FileFault}
+use Rattle.value_files.specs.declared.fault.FileFault.TheVariants.{Depot, Damaged}
+use Rattle.column_stream.specs.Records.{IsStray}
+use Rattle.column_stream.specs.declared.records.Ends.{Ends}
+
+-- A depot tells the files of the grid of these edges, and the table is that of its blocks.
+pub record IsOnGrid (edges : List Edge) (cut : Cut) (table : BlockCounts) (told : FileKind → Option (List ℕ)) : Type 0 where
+  pub numbers : All IsEdge edges
+  pub limits : HasGrid edges cut.vertices cut.parts
+  pub files : Holds told (grid edges cut.vertices cut.parts)
+  pub counts : table ≡ grid_table edges cut.vertices cut.parts
+
+-- A table has a number of edges for each block of a cut, and none has more of them than the room.
+pub record IsLaid (cut : Cut) (table : BlockCounts) (room : ℕ) : Type 0 where
+  pub parts : table.parts ≡ cut.parts
+  pub vertices : cut.vertices ≤ 268435456
+  pub blocks : length table.counts ≡ cut.parts * cut.parts
+  pub few : sum table.counts ≤ 2147483648
+  pub longest : (i j : ℕ) → i < cut.parts → j < cut.parts → count_at table i j ≤ room
+
+-- the ranges of the ends of a block's edges
+abbrev pub ends_of : Cut → ℕ → ℕ → Ends
+ends_of cut i j = record { sources = part_range cut.vertices (chunk_of cut) i; targets = part_range cut.vertices (chunk_of cut) j }
+
+-- A word of some block's records, at its place in Primary, is no vertex of the part in which it has to lie.
+pub record IsStrayWord (cut : Cut) (table : BlockCounts) (place found : ℕ) : Type 0 where
+  pub row : ℕ
+  pub column : ℕ
+  pub row_in : row < cut.parts
+  pub column_in : column < cut.parts
+  pub stray : IsStray (ends_of cut row column) (primary_place_of table row column) (count_at table row column) place found
+
+-- a fault that shows such a word
+abbrev pub ShowsStray : Cut → BlockCounts → FileFault → Type 0
+ShowsStray cut table Depot = ⊤
+ShowsStray cut table (Damaged file place found) = (file ≡ Primary) × IsStrayWord cut table place found
+
+-- the depot failed, and no record was damaged
+abbrev pub IsIntact : FileFault → Type 0
+IsIntact Depot = ⊤
+IsIntact (Damaged file place found) = ⊥

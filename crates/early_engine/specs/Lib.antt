@@ -1,0 +1,9 @@
+pub mod Engines
+pub mod Grids
+pub mod Making
+pub mod Opens
+pub mod Passes
+pub mod Report
+pub mod Runs
+pub mod Starts
+pub mod Turns

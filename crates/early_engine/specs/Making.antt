@@ -1,0 +1,43 @@
+-- What an iteration makes of the values before it.
+use Rattle.std.specs.Prelude.{◌≡◌, ⊤, ℕ, suc, true, List, Some, None, find}
+use Rattle.std.specs.List.{range_with_len}
+use Rattle.lumos_base.specs.declared.records.Edge.{Edge}
+use Rattle.lumos_law.specs.Program.{Program}
+use Rattle.lumos_law.specs.Sync.{is_over, moved_count, values, IsChunk}
+use Rattle.partition.specs.Parts.{Cut, chunk_of}
+use Rattle.grid_format.specs.Tables.{BlockCounts}
+use Rattle.io_account.specs.declared.Counts.{Counts}
+use Rattle.early_engine.specs.Grids.{IsIntact, ShowsStray}
+use Rattle.early_engine.specs.Passes.{passes, tally_of}
+use Rattle.early_engine.specs.declared.iteration.Stop.{Stop}
+use Rattle.early_engine.specs.declared.iteration.Stop.TheVariants.{File, Over}
+
+module _ {V S : Type 0} (p : Program V S) where
+  -- Iteration t + 1 is made: the values after it, its counts, and no vertex is over in it.
+  pub record IsMade (edges : List Edge) (cut : Cut) (t : ℕ) (after : List V) (counts : Counts) : Type 0 where
+    pub chunk : IsChunk (values p edges (suc t)) 0 after
+    pub counted : counts ≡ tally_of edges (chunk_of cut) (passes cut.parts) (moved_count p edges cut.vertices t)
+    pub none : find (is_over p edges t) (range_with_len 0 cut.vertices) ≡ None
+
+  -- Iteration t + 1 isn't made: its least vertex that is over was met, or the depot failed.
+  abbrev pub IsUnmade : List Edge → Cut → ℕ → Stop → Type 0
+  IsUnmade edges cut t (File fault) = IsIntact fault
+  IsUnmade edges cut t (Over vertex) = find (is_over p edges t) (range_with_len 0 cut.vertices) ≡ Some vertex.0
+
+-- a record that stops an iteration, where one does, is damaged
+abbrev pub StopShows : Cut → BlockCounts → Stop → Type 0
+StopShows cut table (File fault) = ShowsStray cut table fault
+StopShows cut table (Over vertex) = ⊤
+
+-- A vertex is over by some value and some sum in range.
+pub record IsOver {V S : Type 0} (ValueIn : V → Type 0) (SumIn : S → Type 0) (p : Program V S) (v : ℕ) : Type 0 where
+  pub value : V
+  pub sum : S
+  pub value_in : ValueIn value
+  pub sum_in : SumIn sum
+  pub over : p.over v value sum ≡ true
+
+-- the vertex for which an iteration stops, where it does, is over
+abbrev pub StopIsOver : {V S : Type 0} → (V → Type 0) → (S → Type 0) → Program V S → Stop → Type 0
+StopIsOver ValueIn SumIn p (File fault) = ⊤
+StopIsOver ValueIn SumIn p (Over vertex) = IsOver ValueIn SumIn p vertex.0

@@ -1,0 +1,80 @@
+-- The report of a run.
+use Rattle.std.specs.Prelude.{◌≡◌, ◌==◌, ℕ, zero, suc, ◌-◌, List, [], ◌++◌, Option, Result, Ok, Err, flat_map, if◌then◌else◌}
+use Rattle.std.specs.List.{range_with_len}
+use Rattle.lumos_base.specs.declared.records.Edge.{Edge}
+use Rattle.lumos_depot.specs.Streams.{AppendsFront, after_told}
+use Rattle.lumos_depot.specs.declared.stream.Failed.{Failed}
+use Rattle.lumos_law.specs.Program.{Program}
+use Rattle.lumos_law.specs.Sync.{Ending as EndingOf, over_in, still_in, limit_at, ending, moved_count, values}
+use Rattle.partition.specs.Parts.{chunk_size}
+use Rattle.grid_format.specs.Grid.{grid_head}
+use Rattle.lumos_report.specs.Report.{counts_line, ending_line, head_line, value_line, zero_line}
+use Rattle.lumos_report.specs.declared.records.Kind.TheVariants.{Full}
+use Rattle.lumos_report.specs.declared.records.Why.TheVariants.{Still, Limit}
+use Rattle.early_engine.specs.Passes.{passes, tally_of}
+use Rattle.early_engine.specs.declared.options.Show.{Show}
+use Rattle.early_engine.specs.declared.options.Show.TheVariants.{All, Brief}
+use Rattle.early_engine.specs.declared.options.Turn.{Turn}
+use Rattle.early_engine.specs.declared.options.Turn.TheVariants.{Going, Ended}
+
+-- how many iterations a run finishes
+abbrev pub finished : EndingOf → ℕ
+finished (over_in t v) = t - 1
+finished (still_in t) = t
+finished (limit_at t) = t
+
+-- the last line, which a run that ends out of range lacks
+abbrev pub end_line : EndingOf → List ℕ
+end_line (over_in t v) = []
+end_line (still_in t) = ending_line (record { iterations = t; why = Still })
+end_line (limit_at t) = ending_line (record { iterations = t; why = Limit })
+
+-- the last line, behind the lines of the last iteration alone
+abbrev pub closing_line : ℕ → EndingOf → List ℕ
+closing_line t end = if finished end == t then end_line end else []
+
+module _ {V S : Type 0} (p : Program V S) where
+  -- a line for each of n vertices, where values are shown
+  abbrev pub shown_lines : Show → (ℕ → V) → ℕ → List ℕ
+  shown_lines All state n = flat_map (λ v. value_line v (p.show (state v))) (range_with_len 0 n)
+  shown_lines Brief state n = []
+
+  -- the lines before the first iteration, over edges between n vertices that are cut into `parts` parts
+  abbrev pub first_lines : List ℕ → Show → List Edge → ℕ → ℕ → List ℕ
+  first_lines name show edges n parts =
+      head_line name (grid_head edges n parts) ++ (zero_line ++ shown_lines show (values p edges 0) n)
+
+  -- the lines of iteration t + 1: its blocks, how many values moved, and the values
+  abbrev pub turn_lines : Show → List Edge → ℕ → ℕ → ℕ → List ℕ
+  turn_lines show edges n parts t =
+      counts_line (suc t) Full (tally_of edges (chunk_size n parts) (passes parts) (moved_count p edges n t)) ++ shown_lines show (values p edges (suc t)) n
+
+  -- what iteration t + 1 writes in a run of at most `limit` iterations: its lines, and the last line where the run ends with it
+  abbrev pub turn_text : Show → List Edge → ℕ → ℕ → ℕ → ℕ → List ℕ
+  turn_text show edges n parts limit t =
+      turn_lines show edges n parts t ++ closing_line (suc t) (ending p edges n limit)
+
+  -- the lines from the first iteration on: those of each finished iteration, and how the run ended
+  abbrev pub later_lines : Show → List Edge → ℕ → ℕ → ℕ → List ℕ
+  later_lines show edges n parts limit =
+      let end = ending p edges n limit in flat_map (turn_lines show edges n parts) (range_with_len 0 (finished end)) ++ end_line end
+
+  -- The report on edges between n vertices that are cut into `parts` parts, of at most `limit` iterations: the head, the
+  -- values at first, the lines of each finished iteration, and how the run ended.
+  abbrev pub report : List ℕ → Show → List Edge → ℕ → ℕ → ℕ → List ℕ
+  report name show edges n parts limit = first_lines name show edges n parts ++ later_lines show edges n parts limit
+
+-- whether a run of at most `limit` iterations goes on after iteration t, in which so many values moved
+abbrev pub turn_of : ℕ → ℕ → ℕ → Turn
+turn_of t limit zero = Ended (record { iterations = t; why = Still })
+turn_of t limit (suc moved) = if t == limit then Ended (record { iterations = t; why = Limit }) else Going
+
+-- the last line, where there is one
+abbrev pub turn_line : Turn → List ℕ
+turn_line Going = []
+turn_line (Ended end) = ending_line end
+
+-- A text was written whole and answered so, or a front of it.
+abbrev pub WritesTurn : Turn → Option (List ℕ) → Option (List ℕ) → List ℕ → Result Turn Failed → Type 0
+WritesTurn turn old new text (Ok made) = (made ≡ turn) × (new ≡ after_told old text)
+WritesTurn turn old new text (Err failed) = AppendsFront old new text

@@ -1,0 +1,28 @@
+-- What comes of a run.
+use Rattle.std.specs.Prelude.{◌≡◌, ◌≢◌, ◌≤◌, ℕ, List, Option, Result, Ok, Err}
+use Rattle.lumos_depot.specs.Files.{Same}
+use Rattle.lumos_depot.specs.Streams.{AppendsFront, after_told}
+use Rattle.lumos_depot.specs.declared.depot.FileKind.{FileKind}
+use Rattle.lumos_depot.specs.declared.depot.FileKind.TheVariants.{Primary, Info}
+use Rattle.lumos_law.specs.Sync.{Ending as EndingOf, over_in}
+use Rattle.lumos_report.specs.declared.records.Ending.{Ending}
+use Rattle.early_engine.specs.Turns.{ending_told}
+use Rattle.early_engine.specs.declared.options.RunFault.{RunFault}
+use Rattle.early_engine.specs.declared.options.RunFault.TheVariants.{Depot, Out, Range, Damaged}
+
+-- What comes of a run that ends so and has this text: the text was written and the ending answered, or the vertex that is
+-- over; or the outside failed, and a front of the text was written.
+abbrev pub RunComes : EndingOf → List ℕ → Option (List ℕ) → Option (List ℕ) → Result Ending RunFault → Type 0
+RunComes end text old new (Ok ending) = (end ≡ ending_told ending) × (new ≡ after_told old text)
+RunComes end text old new (Err (Range iteration vertex)) = (end ≡ over_in iteration vertex) × (new ≡ after_told old text)
+RunComes end text old new (Err Out) = AppendsFront old new text
+RunComes end text old new (Err Depot) = AppendsFront old new text
+RunComes end text old new (Err (Damaged kind place found)) = ⊥
+
+-- The run read Info and Primary: no file and no other count changed, and the count of faults didn't fall.
+pub record Streams {D : Type 0} (h : D → FileKind → Option (List ℕ)) (t s : D → FileKind → ℕ) (f : D → ℕ) (a : D → Option (List ℕ)) (old new : D) : Type 0 where
+  pub attached : a new ≡ a old
+  pub contents : Same (h old) (h new)
+  pub taken : (kind : FileKind) → kind ≢ Primary → kind ≢ Info → t new kind ≡ t old kind
+  pub stored : Same (s old) (s new)
+  pub later : f old ≤ f new

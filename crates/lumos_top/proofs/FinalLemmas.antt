@@ -12,7 +12,7 @@ use Rattle.lumos_depot.proofs.Written.{writes_cut, writes_then}
 use Rattle.lumos_law.specs.Program.{Program}
 use Rattle.lumos_law.specs.Sync.{IsChunk, values}
 use Rattle.partition.specs.Parts.{Cut, chunk_of, first_vertex, part_length}
-use Rattle.lumos_top.specs.Report.{value_line}
+use Rattle.lumos_report.specs.Report.{value_line}
 use Rattle.lumos_top.specs.Replays.{chunk_lines, chunk_values, final_line}
 
 -- no part has more vertices than all of them

@@ -1,5 +1,5 @@
 -- How a replay ends over the outside.
-use Rattle.std.proofs.Common.{◌≡◌, ◌<◌, ◌≤◌, ℕ, ltb, List, [], ◌++◌, length, Option, None, Result, Ok, Err, refl, ap, subst, ◌∙◌}
+use Rattle.std.proofs.Common.{◌≡◌, ◌<◌, ◌≤◌, ℕ, false, ltb, List, [], ◌++◌, length, Option, None, Result, Ok, Err, refl, ap, subst, ◌∙◌}
 use Rattle.std.proofs.lemmas.Bool.{cond-false, cond-true, le-ltb, lt-ltb}
 use Rattle.flight_core.specs.Replayed.{Replayed, begun}
 use Rattle.flight_core.specs.declared.event.Event.{Event}
@@ -12,7 +12,7 @@ use Rattle.partition.specs.Parts.{Cut, chunk_of}
 use Rattle.lumos_top.specs.Outcome.{did_replay, did_within, replay_text, replay_with}
 use Rattle.lumos_top.specs.Replaying.{EventsEnd, Shows, done_all, refused_in}
 use Rattle.lumos_top.specs.Replays.{Streamed, final_lines, events_line, replay_report, replayed, streamed, unless_refused}
-use Rattle.lumos_top.specs.Report.{head_line}
+use Rattle.lumos_report.specs.Report.{head_line}
 use Rattle.lumos_top.specs.Running.{Ends, EndsOn, Sides}
 use Rattle.lumos_top.specs.Streaming.{HasStreamed, StopsBy, streamed_of}
 use Rattle.lumos_top.specs.declared.status.Completed.TheVariants.{Replay}
@@ -30,6 +30,7 @@ pub stopped : {G V S : Type 0} (p : Program V S) (name : List ℕ) (shown : ℕ)
 stopped p name shown program edges cut events new stop.Memory out h = refl
 stopped p name shown program edges cut events new stop.Read out h = h
 stopped p name shown program edges cut events new stop.Depot out h = h
+stopped p name shown program edges cut events new (stop.Damaged file place found) out h = h
 stopped p name shown program edges cut events new stop.Write out h = absurd h
 stopped p name shown program edges cut events new (stop.Usage fault) out h = h
 stopped p name shown program edges cut events new (stop.TooMany many) out h = h
@@ -75,6 +76,7 @@ stream_ends program parts bytes left_old left_new files out stop.Memory few h = 
 stream_ends program parts bytes left_old left_new files out stop.Read few h = record { same = refl; files = same_grid files }
 stream_ends program parts bytes left_old left_new files out stop.Depot few h = absurd h
 stream_ends program parts bytes left_old left_new files out stop.Write few h = absurd h
+stream_ends program parts bytes left_old left_new files out (stop.Damaged file place found) few h = absurd h
 stream_ends program parts bytes left_old left_new files out (stop.Usage fault) few h = absurd h
 stream_ends program parts bytes left_old left_new files out (stop.TooMany many) few h = absurd h
 stream_ends program parts bytes left_old left_new files out (stop.Illegal event why) few h = absurd h
@@ -96,11 +98,9 @@ stream_stopped program parts left_old left_new files out why few h = record {
 done_ends : (program : ProgramName) (parts : ℕ) (bytes : List ℕ) (s : Streamed) (left_old left_new : Option (List ℕ)) (files : FileKind → Option (List ℕ)) (old new : Option (List ℕ)) → parts ≤ 64 → streamed 1099511627776 bytes ≡ Ok s → Shows (replay_text program parts s) old new (Ok tt) →
     Ends (did_within program parts bytes) (sides_with left_old left_new files old new) (Ok Replay)
 done_ends program parts bytes s left_old left_new files old new few is h = record {
-  did = record { text = h.text; status = status.Done; line = []; built = None };
+  did = record { text = h.text; status = status.Done; line = []; built = None; streamed = false; taken = 0 };
   gives = parts_few program parts bytes few ∙ ap (replay_with program parts) is ∙ ap did_replay h.gives;
-  status = refl;
-  line = refl;
-  written = h.written;
+  exact = record { status = refl; line = refl; written = h.written };
   files = same_grid files;
 }
 
@@ -108,7 +108,7 @@ failed_ends : (program : ProgramName) (parts : ℕ) (bytes : List ℕ) (s : Stre
     Ends (did_within program parts bytes) (sides_with left_old left_new files old new) (Err why)
 failed_ends program parts bytes s left_old left_new files old new stop.Memory few is h = h
 failed_ends program parts bytes s left_old left_new files old new stop.Write few is h = record {
-  did = record { text = h.text; status = status.Done; line = []; built = None };
+  did = record { text = h.text; status = status.Done; line = []; built = None; streamed = false; taken = 0 };
   gives = parts_few program parts bytes few ∙ ap (replay_with program parts) is ∙ ap did_replay h.gives;
   front = h.front;
   files = same_grid files;
@@ -117,6 +117,7 @@ failed_ends program parts bytes s left_old left_new files old new (stop.Illegal 
     record { gives = parts_few program parts bytes few ∙ ap (replay_with program parts) is ∙ ap did_replay h.0; same = h.1; files = same_grid files }
 failed_ends program parts bytes s left_old left_new files old new stop.Read few is h = absurd h
 failed_ends program parts bytes s left_old left_new files old new stop.Depot few is h = absurd h
+failed_ends program parts bytes s left_old left_new files old new (stop.Damaged file place found) few is h = absurd h
 failed_ends program parts bytes s left_old left_new files old new (stop.Usage fault) few is h = absurd h
 failed_ends program parts bytes s left_old left_new files old new (stop.TooMany many) few is h = absurd h
 failed_ends program parts bytes s left_old left_new files old new (stop.Text fault) few is h = absurd h
@@ -160,7 +161,7 @@ program_stopped model name shown n parts program edges items cut evs events old 
 -- the report that is written of the state after the events
 abbrev report_of : {G V S : Type 0} (p : Program V S) (name : List ℕ) (shown : ℕ) (cut : Cut) (now : Replayed G V S) (edge_count event_count : ℕ) → List ℕ
 report_of p name shown cut now edge_count event_count =
-    head_line name cut.vertices edge_count cut.parts ++ (final_lines p now.edges cut.vertices (chunk_of cut) now.state cut.parts shown ++ events_line event_count)
+    head_line name (record { version = 1; parts = cut.parts; vertices = cut.vertices; edges = edge_count }) ++ (final_lines p now.edges cut.vertices (chunk_of cut) now.state cut.parts shown ++ events_line event_count)
 
 reports_same : {G V S : Type 0} (p : Program V S) (name : List ℕ) (shown : ℕ) (program : G) (edges : List Edge) (cut : Cut) (evs : List Event) (now : Replayed G V S) (edge_count event_count : ℕ) →
     now ≡ done_all p (begun p program edges cut) evs → edge_count ≡ length edges → event_count ≡ length evs → report_of p name shown cut now edge_count event_count ≡ replay_report p edges cut.vertices cut.parts name shown evs
@@ -172,7 +173,7 @@ reports_same p name shown program edges cut evs now edge_count event_count done 
 pub program_shown : {G V S : Type 0} (model : G → Program V S) (name : List ℕ) (shown n parts : ℕ) (program : G) (edges items : List Edge) (cut : Cut) (evs events : List Event) (begins now : Replayed G V S) (edge_count event_count : ℕ) (old new : Option (List ℕ)) →
     edges ≡ items → cut ≡ record { vertices = n; parts = parts } → evs ≡ events → begins ≡ begun (model program) program edges cut → edge_count ≡ length edges → event_count ≡ length evs →
     EventsEnd (model begins.program) begins evs now (Ok tt) →
-    Writes {E = Failed} old new (Ok tt) (head_line name cut.vertices edge_count cut.parts ++ (final_lines (model program) now.edges cut.vertices (chunk_of cut) now.state cut.parts shown ++ events_line event_count)) →
+    Writes {E = Failed} old new (Ok tt) (head_line name (record { version = 1; parts = cut.parts; vertices = cut.vertices; edges = edge_count }) ++ (final_lines (model program) now.edges cut.vertices (chunk_of cut) now.state cut.parts shown ++ events_line event_count)) →
     Shows (replayed (model program) items n parts name shown events) old new (Ok tt)
 program_shown model name shown n parts program edges items cut evs events begins now edge_count event_count old new edges_is cut_is events_is made edge_is event_is h wrote =
     let p = model program in
@@ -184,7 +185,7 @@ program_shown model name shown n parts program edges items cut evs events begins
 pub program_cut : {G V S : Type 0} (model : G → Program V S) (name : List ℕ) (shown n parts : ℕ) (program : G) (edges items : List Edge) (cut : Cut) (evs events : List Event) (begins now : Replayed G V S) (edge_count event_count : ℕ) (old new : Option (List ℕ)) (failed : Failed) →
     edges ≡ items → cut ≡ record { vertices = n; parts = parts } → evs ≡ events → begins ≡ begun (model program) program edges cut → edge_count ≡ length edges → event_count ≡ length evs →
     EventsEnd (model begins.program) begins evs now (Ok tt) →
-    Writes old new (Err failed) (head_line name cut.vertices edge_count cut.parts ++ (final_lines (model program) now.edges cut.vertices (chunk_of cut) now.state cut.parts shown ++ events_line event_count)) →
+    Writes old new (Err failed) (head_line name (record { version = 1; parts = cut.parts; vertices = cut.vertices; edges = edge_count }) ++ (final_lines (model program) now.edges cut.vertices (chunk_of cut) now.state cut.parts shown ++ events_line event_count)) →
     Shows (replayed (model program) items n parts name shown events) old new (Err stop.Write)
 program_cut model name shown n parts program edges items cut evs events begins now edge_count event_count old new failed edges_is cut_is events_is made edge_is event_is h wrote =
     let p = model program in

@@ -3,22 +3,15 @@ use Rattle.std.proofs.Common.{◌≡◌, ◌==◌, ℕ, Bool, true, false, nat_l
 use Rattle.std.specs.Prelude.{if◌then◌else◌, unwrap_or}
 use Rattle.partition.specs.Parts.{Cut, cut_of}
 use Rattle.partition.specs.declared.records.PartFault.TheVariants.{ZeroParts, TooManyParts, TooManyVertices}
-use Rattle.lumos_base.specs.declared.records.Edge.{Edge}
-use Rattle.lumos_depot.specs.Streams.{AppendsFront, after_told}
 use Rattle.lumos_depot.specs.declared.depot.FileKind.{FileKind}
-use Rattle.lumos_depot.specs.declared.stream.Failed.{Failed}
-use Rattle.lumos_law.specs.Program.{Program}
-use Rattle.lumos_law.specs.Sync.{Ending, ending}
-use Rattle.lumos_top.specs.Report.{report}
-use Rattle.lumos_top.specs.Turns.{WritesTo, ending_told}
 use Rattle.edge_text.specs.Reading.{Listed, reading}
 use Rattle.edge_text.specs.declared.fault.TextFault.{TextFault}
 use Rattle.edge_text.specs.declared.fault.TextLimits.{TextLimits}
 use Rattle.lumos_top.specs.Outcome.{Did, answer, answer_to, done_with, done_within}
 use Rattle.lumos_top.specs.Words.{request}
-use Rattle.lumos_top.specs.Running.{Ends, EndsOn, HasDone, SameGrid, Sides, StopsAtWords}
+use Rattle.grid_format.specs.declared.head.GridInfo.{GridInfo}
+use Rattle.lumos_top.specs.Running.{BuiltAs, Ends, EndsOn, HasDone, HasGridBuilt, SameGrid, Sides, StopsAtWords}
 use Rattle.lumos_top.specs.declared.status.Completed.{Completed}
-use Rattle.lumos_top.specs.declared.status.Ended.{Ended}
 use Rattle.lumos_top.specs.declared.status.Stop.{Stop}
 use Rattle.lumos_top.specs.declared.status.Stop.TheVariants as stop
 use Rattle.lumos_top.specs.declared.status.TooMany.{TooMany}
@@ -51,17 +44,13 @@ refused answer_on why sides ends = record {
   ended = λ ok. absurd (cc);
 }
 
--- a report over a cut is one over its numbers
-pub written_at : {V S : Type 0} (p : Program V S) (name : List ℕ) (edges : List Edge) (limit n parts : ℕ) (cut : Cut) (old new : Option (List ℕ)) (r : Result Ended Failed) → cut ≡ record { vertices = n; parts = parts }
-    → WritesTo (ending p edges cut.vertices limit) old new (report p name edges cut.vertices cut.parts limit) r → WritesTo (ending p edges n limit) old new (report p name edges n parts limit) r
-written_at p name edges limit n parts cut old new r is h =
-    subst (λ (k : Cut). WritesTo (ending p edges k.vertices limit) old new (report p name edges k.vertices k.parts limit) r) is h
-
-pub written_whole : (e : Ending) (old new : Option (List ℕ)) (text : List ℕ) (r : Result Ended Failed) (ended : Ended) → r ≡ Ok ended → WritesTo e old new text r → (ending_told ended ≡ e) × (new ≡ after_told old text)
-written_whole e old new text r ended is h = subst (WritesTo e old new text) is h
-
-pub written_front : (e : Ending) (old new : Option (List ℕ)) (text : List ℕ) (r : Result Ended Failed) (failed : Failed) → r ≡ Err failed → WritesTo e old new text r → AppendsFront old new text
-written_front e old new text r failed is h = subst (WritesTo e old new text) is h
+-- a grid that the outside stopped before anything was read
+pub unbuilt : (limits : TextLimits) (p : ℕ) (sides : Sides) (result : Result GridInfo Stop) → ((bytes : List ℕ) → BuiltAs limits p bytes sides result) → HasGridBuilt limits p sides result
+unbuilt limits p sides result builds = record {
+  bytes = unwrap_or sides.left_old [];
+  told = λ all h. all_told sides.left_old all h;
+  builds = builds (unwrap_or sides.left_old []);
+}
 
 no_usage : (command : Listed → Did) (r : Result Listed TextFault) (fault : UsageFault) → done_with command r ≡ Err (stop.Usage fault) → ⊥
 no_usage command (Ok list) fault h = cc

@@ -88,6 +88,7 @@ list_stops text stop.Memory h = tt
 list_stops text stop.Read h = tt
 list_stops text stop.Depot h = h
 list_stops text stop.Write h = h
+list_stops text (stop.Damaged file place found) h = h
 list_stops text (stop.Usage fault) h = h
 list_stops text (stop.TooMany many) h = h
 list_stops text (stop.Illegal event why) h = h

@@ -2,7 +2,6 @@
 use Rattle.std.specs.Prelude.{ℕ, ◌≤◌, List, length, All}
 use Rattle.lumos_base.specs.declared.records.Edge.{Edge}
 use Rattle.lumos_base.specs.Records.{IsEdge}
-use Rattle.lumos_base.specs.declared.records.OutInfo.{OutInfo}
 use Rattle.partition.specs.Blocks.{IsBelow}
 
 -- a list of edges between n vertices, within the limits on both
@@ -11,7 +10,3 @@ pub record IsGraph (n : ℕ) (edges : List Edge) : Type 0 where
   pub few_vertices : n ≤ 268435456
   pub numbers : All IsEdge edges
   pub ends : All (IsBelow n) edges
-
--- nothing leads out of a vertex
-abbrev pub no_info : OutInfo
-no_info = record { degree = 0; weight = 0 }

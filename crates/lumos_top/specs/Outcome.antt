@@ -1,5 +1,5 @@
 -- What words and input come to: a status, a text, a fault line and the files of a grid.
-use Rattle.std.specs.Prelude.{ℕ, List, [], ◌++◌, length, nat_lt, Option, Some, None, Result, Ok, Err, codes, if◌then◌else◌}
+use Rattle.std.specs.Prelude.{ℕ, ◌*◌, Bool, true, false, List, [], ◌++◌, length, nat_lt, Option, Some, None, Result, Ok, Err, codes, if◌then◌else◌}
 use Rattle.std.specs.Fmt.{decimal}
 use Rattle.edge_text.specs.Reading.{Listed, reading}
 use Rattle.flight_core.specs.declared.event.Illegal.{Illegal}
@@ -15,7 +15,13 @@ use Rattle.programs.specs.Components.{components_program}
 use Rattle.programs.specs.Tally.{tally_program}
 use Rattle.grid_format.specs.Checks.{GridFiles}
 use Rattle.grid_format.specs.Grid.{grid}
-use Rattle.lumos_top.specs.Report.{grid_line, report}
+use Rattle.partition.specs.Parts.{chunk_size}
+use Rattle.early_engine.specs.Passes.{bytes_of, passes}
+use Rattle.early_engine.specs.Report.{finished, report}
+use Rattle.early_engine.specs.declared.options.Show.TheVariants.{All}
+use Rattle.lumos_depot.specs.declared.depot.FileKind.{FileKind}
+use Rattle.lumos_depot.specs.declared.depot.FileKind.TheVariants as file
+use Rattle.lumos_top.specs.Report.{grid_line}
 use Rattle.lumos_top.specs.Replays.{Streamed, replayed, streamed}
 use Rattle.lumos_top.specs.Words.{name_at, request}
 use Rattle.lumos_top.specs.declared.words.ListWords.{ListWords}
@@ -47,13 +53,18 @@ vertices_within words (Some n) = if nat_lt 268435456 n then Err (Vertices n) els
 abbrev pub limits_of : ListWords → Result TextLimits TooMany
 limits_of words = if nat_lt 256 words.parts then Err (Parts words.parts 256) else vertices_within words words.vertices
 
--- what a run writes, and how it ends
+-- what a run writes, how it ends, and how many bytes it takes of Primary
 pub record Ran : Type 0 where
   pub text : List ℕ
   pub ending : Ending
+  pub taken : ℕ
+
+-- how many bytes a run with this ending takes of Primary: in each iteration that it finishes, those of the blocks that it reads
+abbrev pub run_bytes : Ending → Listed → ℕ → ℕ
+run_bytes end list parts = finished end * bytes_of list.edges (chunk_size list.vertices parts) (passes parts)
 
 abbrev pub ran_by : {V S : Type 0} → Program V S → List ℕ → ℕ → ℕ → Listed → Ran
-ran_by p name parts iterations list = record { text = report p name list.edges list.vertices parts iterations; ending = ending p list.edges list.vertices iterations }
+ran_by p name parts iterations list = record { text = report p name All list.edges list.vertices parts iterations; ending = ending p list.edges list.vertices iterations; taken = run_bytes (ending p list.edges list.vertices iterations) list parts }
 
 abbrev pub ran_as : ProgramName → ℕ → ℕ → Listed → Ran
 ran_as Components parts iterations list = ran_by components_program (codes "components") parts iterations list
@@ -70,18 +81,21 @@ ending_line (over_in t v) = codes "lumos: range: iteration " ++ decimal t ++ cod
 ending_line (still_in t) = []
 ending_line (limit_at t) = []
 
--- what a command comes to that nothing stops: its text, its status and fault line, and the grid that it builds, if any
+-- what a command comes to that nothing stops: its text, its status and fault line, the grid that it builds, if any,
+-- whether its text is made of what the files of the grid give back, and how many bytes it takes of Primary
 pub record Did : Type 0 where
   pub text : List ℕ
   pub status : Status
   pub line : List ℕ
   pub built : Option GridFiles
+  pub streamed : Bool
+  pub taken : ℕ
 
-abbrev pub did_run : Ran → Did
-did_run ran = record { text = ran.text; status = ending_status ran.ending; line = ending_line ran.ending; built = None }
+abbrev pub did_run : (Listed → Ran) → ℕ → Listed → Did
+did_run ran parts list = record { text = (ran list).text; status = ending_status (ran list).ending; line = ending_line (ran list).ending; built = Some (grid list.edges list.vertices parts); streamed = true; taken = (ran list).taken }
 
 abbrev pub did_build : ℕ → Listed → Did
-did_build parts list = record { text = grid_line list.vertices (length list.edges) parts; status = status.Done; line = []; built = Some (grid list.edges list.vertices parts) }
+did_build parts list = record { text = grid_line list.vertices (length list.edges) parts; status = status.Done; line = []; built = Some (grid list.edges list.vertices parts); streamed = false; taken = 0 }
 
 -- what is done with a list that was read, or its fault
 abbrev pub done_with : (Listed → Did) → Result Listed TextFault → Result Did Stop
@@ -94,7 +108,7 @@ done_within command (Err many) input = Err (stop.TooMany many)
 
 -- what a replay writes, unless an event is refused
 abbrev pub did_replay : Result (List ℕ) Stop → Result Did Stop
-did_replay (Ok text) = Ok (record { text = text; status = status.Done; line = []; built = None })
+did_replay (Ok text) = Ok (record { text = text; status = status.Done; line = []; built = None; streamed = false; taken = 0 })
 did_replay (Err why) = Err why
 
 -- what a replay of events over a list writes: the iterations from 0 to 1024 are shown
@@ -111,7 +125,7 @@ abbrev pub did_within : ProgramName → ℕ → List ℕ → Result Did Stop
 did_within program parts input = if nat_lt 64 parts then Err (stop.TooMany (Parts parts 64)) else replay_with program parts (streamed 1099511627776 input)
 
 abbrev pub answer_to : Result Request UsageFault → List ℕ → Result Did Stop
-answer_to (Ok (Run program iterations words)) input = done_within (λ list. did_run (ran_as program words.parts iterations list)) (limits_of words) input
+answer_to (Ok (Run program directory iterations words)) input = done_within (did_run (ran_as program words.parts iterations) words.parts) (limits_of words) input
 answer_to (Ok (Build directory words)) input = done_within (did_build words.parts) (limits_of words) input
 answer_to (Ok (Replay program parts)) input = did_within program parts input
 answer_to (Err fault) input = Err (stop.Usage fault)
@@ -120,13 +134,13 @@ answer_to (Err fault) input = Err (stop.Usage fault)
 abbrev pub answer : List (List ℕ) → List ℕ → Result Did Stop
 answer words input = answer_to (request words) input
 
--- the directory that words lead to, if they lead to one: that of a build for which no stated number is too great
+-- the directory that words lead to, if they lead to one: that of a run or a build for which no stated number is too great
 abbrev pub place_within : Result TextLimits TooMany → List ℕ → Option (List ℕ)
 place_within (Ok limits) name = Some name
 place_within (Err many) name = None
 
 abbrev pub place_for : List (List ℕ) → Result Request UsageFault → Option (List ℕ)
-place_for words (Ok (Run program iterations list)) = None
+place_for words (Ok (Run program directory iterations list)) = place_within (limits_of list) (name_at words directory)
 place_for words (Ok (Build directory list)) = place_within (limits_of list) (name_at words directory)
 place_for words (Ok (Replay program parts)) = None
 place_for words (Err fault) = None
@@ -151,6 +165,7 @@ stop_status (stop.Illegal event why) = status.Schedule
 stop_status stop.Read = status.ReadFault
 stop_status stop.Depot = status.DepotFault
 stop_status stop.Write = status.WriteFault
+stop_status (stop.Damaged file place found) = status.Grid
 
 abbrev pub usage_text : UsageWhat → List ℕ
 usage_text usage.NoCommand = codes "no command"
@@ -192,6 +207,16 @@ illegal_text (NotSkippable vertex) = codes "vertex " ++ decimal vertex ++ codes 
 illegal_text OldNotFinal = codes "old not final"
 illegal_text (ColumnOpen row) = codes "row " ++ decimal row ++ codes " not done"
 
+-- a file of a grid or a run, by its word
+abbrev pub file_text : FileKind → List ℕ
+file_text file.Meta = codes "meta"
+file_text file.Primary = codes "primary"
+file_text file.Secondary = codes "secondary"
+file_text file.Info = codes "info"
+file_text file.Values = codes "values"
+file_text file.Sums = codes "sums"
+file_text file.Spool = codes "spool"
+
 -- the fault line of a command that stopped
 abbrev pub stop_line : Stop → List ℕ
 stop_line stop.Memory = codes "lumos: memory\n"
@@ -206,28 +231,46 @@ stop_line (stop.Illegal event why) = codes "lumos: illegal: event " ++ decimal e
 stop_line stop.Read = codes "lumos: read fault\n"
 stop_line stop.Depot = codes "lumos: depot fault\n"
 stop_line stop.Write = codes "lumos: write fault\n"
+stop_line (stop.Damaged file place found) = codes "lumos: damaged: " ++ file_text file ++ codes " at " ++ decimal place ++ codes " found " ++ decimal found ++ codes "\n"
 
--- a status, what is written to `out`, a fault line, and the grid that is built, if one is; else the grid's files stay
+-- a status, what is written to `out`, a fault line, and the grid that is built, if one is; else the grid's files stay.
+-- A text that is streamed is made of what the files of the grid give back, of which so many bytes of Primary are taken.
 pub record Outcome : Type 0 where
   pub status : Status
   pub out : List ℕ
   pub err : List ℕ
   pub built : Option GridFiles
+  pub streamed : Bool
+  pub taken : ℕ
 
 abbrev pub outcome_of : Result Did Stop → Outcome
-outcome_of (Ok did) = record { status = did.status; out = did.text; err = did.line; built = did.built }
-outcome_of (Err why) = record { status = stop_status why; out = []; err = stop_line why; built = None }
+outcome_of (Ok did) = record { status = did.status; out = did.text; err = did.line; built = did.built; streamed = did.streamed; taken = did.taken }
+outcome_of (Err why) = record { status = stop_status why; out = []; err = stop_line why; built = None; streamed = false; taken = 0 }
 
 -- the outcome of words and input
 abbrev pub outcome : List (List ℕ) → List ℕ → Outcome
 outcome words input = outcome_of (answer words input)
 
+-- the fault line of a status that comes from the outside
+abbrev pub outside_line : Status → List ℕ
+outside_line status.Memory = stop_line stop.Memory
+outside_line status.ReadFault = stop_line stop.Read
+outside_line status.DepotFault = stop_line stop.Depot
+outside_line status.WriteFault = stop_line stop.Write
+outside_line status.Done = []
+outside_line status.Usage = []
+outside_line status.Input = []
+outside_line status.Limit = []
+outside_line status.Range = []
+outside_line status.Grid = []
+outside_line status.Schedule = []
+
 -- the fault line of a status: four have a line of their own
 abbrev pub line_for : Status → Outcome → List ℕ
-line_for status.Memory o = stop_line stop.Memory
-line_for status.ReadFault o = stop_line stop.Read
-line_for status.DepotFault o = stop_line stop.Depot
-line_for status.WriteFault o = stop_line stop.Write
+line_for status.Memory o = outside_line status.Memory
+line_for status.ReadFault o = outside_line status.ReadFault
+line_for status.DepotFault o = outside_line status.DepotFault
+line_for status.WriteFault o = outside_line status.WriteFault
 line_for status.Done o = o.err
 line_for status.Usage o = o.err
 line_for status.Input o = o.err

@@ -16,7 +16,8 @@ use Rattle.flight_core.specs.declared.event.Event.{Event}
 use Rattle.flight_core.specs.declared.event.Illegal.{Illegal}
 use Rattle.flight_core.specs.declared.schedule.ScheduleFault.{ScheduleFault}
 use Rattle.flight_core.specs.declared.schedule.ScheduleFault.TheVariants.{Bad, Ended, TooManyEvents, NoMemory}
-use Rattle.lumos_top.specs.Report.{head_line, value_line}
+use Rattle.grid_format.specs.Grid.{grid_head}
+use Rattle.lumos_report.specs.Report.{head_line, value_line}
 use Rattle.lumos_top.specs.declared.status.Stop.{Stop}
 use Rattle.lumos_top.specs.declared.status.Stop.TheVariants as stop
 
@@ -122,7 +123,7 @@ module _ {V S : Type 0} (p : Program V S) (edges : List Edge) (n parts : ℕ) wh
   -- iterations below `shown`, and the number of events.
   abbrev pub replay_report : List ℕ → ℕ → List Event → List ℕ
   replay_report name shown events =
-      head_line name n (length edges) parts ++ (final_lines p edges n (chunk_size n parts) (after_events events) parts shown ++ events_line (length events))
+      head_line name (grid_head edges n parts) ++ (final_lines p edges n (chunk_size n parts) (after_events events) parts shown ++ events_line (length events))
 
   -- the same, unless an event is refused: then the first that is
   abbrev pub replayed : List ℕ → ℕ → List Event → Result (List ℕ) Stop

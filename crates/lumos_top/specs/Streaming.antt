@@ -23,6 +23,7 @@ StopsBy text stop.Memory = Unit {0}
 StopsBy text stop.Read = Unit {0}
 StopsBy text stop.Depot = ⊥
 StopsBy text stop.Write = ⊥
+StopsBy text (stop.Damaged file place found) = ⊥
 StopsBy text (stop.Usage fault) = ⊥
 StopsBy text (stop.TooMany many) = ⊥
 StopsBy text (stop.Illegal event why) = ⊥

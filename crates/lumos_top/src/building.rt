@@ -1,10 +1,13 @@
 // A grid that is built.
-ghost use Rattle.std.specs.Prelude.{◌≡◌, ◌≢◌, ◌≤◌, ◌<◌, Err, Option, None, Some};
+ghost use Rattle.std.specs.Prelude.{◌≡◌, ◌≢◌, ◌≤◌, ◌<◌, ℕ, List, Err, IfOk, Option, None, Some};
 ghost use Rattle.lumos_depot.specs.Causes.{HasCause, Rose};
 ghost use Rattle.lumos_depot.specs.Streams.{Writes};
-ghost use Rattle.lumos_top.specs.Outcome.{did_build};
+ghost use Rattle.lumos_depot.specs.declared.depot.FileKind.{FileKind};
+ghost use Rattle.edge_text.specs.Reading.{reading};
+ghost use Rattle.lumos_top.specs.Outcome.{did_build, done_with};
 ghost use Rattle.lumos_top.specs.Report.{grid_line};
-ghost use Rattle.lumos_top.specs.Running.{HasDone, IsAttached, TextFits, stop_of};
+ghost use Rattle.grid_format.specs.Heads.{IsHead};
+ghost use Rattle.lumos_top.specs.Running.{HasDone, HasGridBuilt, IsAttached, LeavesRuns, TakesAs, TextFits, stop_of};
 
 use crate::status::{Completed, Stop};
 use edge_text::{TextFault, TextLimits};
@@ -48,6 +51,60 @@ fn build_stop(fault: BuildFault) -> Stop
     }
 }
 
+/// Attaches a directory, and builds in it the grid of a list that is read within the limits of its text, over so many
+/// parts, from 1 to 256.
+///
+/// It stops by `Text` exactly where the input has that fault, by `Read` and `Depot` only where the faults of the input and
+/// the depot rose, and by `Memory` for no cause of its own.
+pub fn build_files<I: Source, D: Depot>(
+    alloc: Global,
+    path: &str,
+    parts: u32,
+    text: TextLimits,
+    input: &mut I,
+    depot: &mut D,
+) -> Result<GridInfo, Stop>
+    requires free { D.attached depot.old ≡ None }
+    requires some { 0 < parts }
+    requires few { parts ≤ 256 }
+    requires text { TextFits text }
+    ensures built { (out : Option (List ℕ)) → HasGridBuilt text parts (record {
+      left_old = I.left input.old;
+      left_new = I.left input.new;
+      was = D.holds depot.old;
+      is = D.holds depot.new;
+      old_out = out;
+      new_out = out;
+    }) result }
+    ensures limits { IfOk result IsHead }
+    ensures taken { D.taken depot.new FileKind.Primary ≡ D.taken depot.old FileKind.Primary }
+    ensures leaves { LeavesRuns D.holds D.taken D.stored depot.old depot.new }
+    ensures attached { IsAttached (Some path.now) (D.attached depot.new) result }
+    ensures input_later { I.faults input.old ≤ I.faults input.new }
+    ensures depot_later { D.faults depot.old ≤ D.faults depot.new }
+    ensures read { result ≡ Err Stop.Read → Rose (I.faults input.old) (I.faults input.new) }
+    ensures depot { result ≡ Err Stop.Depot → Rose (D.faults depot.old) (D.faults depot.new) }
+{
+    match depot.attach(path) {
+        Ok(()) => {}
+        Err(fault) => {
+            return Err(match fault {
+                DepotFault::Failed => Stop::Depot,
+                DepotFault::NoMemory => Stop::Memory,
+            });
+        }
+    }
+    let options = BuildOptions {
+        parts: PartsChoice::Stated(parts),
+        limits: text,
+        budget: BUDGET,
+    };
+    match build(alloc, input, depot, &options) {
+        Ok(info) => Ok(info),
+        Err(fault) => Err(build_stop(fault)),
+    }
+}
+
 /// Attaches a directory, builds in it the grid of a list that is read within the limits of its text, over so many parts,
 /// from 1 to 256, and writes its line.
 ///
@@ -74,6 +131,9 @@ pub fn build_grid<I: Source, D: Depot, O: Sink>(
       old_out = O.written out.old;
       new_out = O.written out.new;
     }) result }
+    ensures takes { (bytes : List ℕ) → I.left input.old ≡ Some bytes
+        → TakesAs (done_with (did_build parts) (reading text bytes)) (D.holds depot.old) (D.taken depot.old FileKind.Primary) (D.taken depot.new FileKind.Primary) result }
+    ensures leaves { LeavesRuns D.holds D.taken D.stored depot.old depot.new }
     ensures attached { IsAttached (Some path.now) (D.attached depot.new) result }
     ensures input_later { I.faults input.old ≤ I.faults input.new }
     ensures depot_later { D.faults depot.old ≤ D.faults depot.new }
@@ -82,23 +142,9 @@ pub fn build_grid<I: Source, D: Depot, O: Sink>(
     ensures depot { result ≡ Err Stop.Depot → Rose (D.faults depot.old) (D.faults depot.new) }
     ensures write { result ≡ Err Stop.Write → Rose (O.faults out.old) (O.faults out.new) }
 {
-    match depot.attach(path) {
-        Ok(()) => {}
-        Err(fault) => {
-            return Err(match fault {
-                DepotFault::Failed => Stop::Depot,
-                DepotFault::NoMemory => Stop::Memory,
-            });
-        }
-    }
-    let options = BuildOptions {
-        parts: PartsChoice::Stated(parts),
-        limits: text,
-        budget: BUDGET,
-    };
-    let info = match build(alloc, input, depot, &options) {
+    let info = match build_files(alloc, path, parts, text, input, depot) {
         Ok(info) => info,
-        Err(fault) => return Err(build_stop(fault)),
+        Err(stop) => return Err(stop),
     };
     match out.write_all(grid_text(info).bytes()) {
         Ok(()) => Ok(Completed::Build),

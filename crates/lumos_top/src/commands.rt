@@ -3,7 +3,7 @@ ghost use Rattle.std.specs.Prelude.{◌≡◌, ◌≤◌, ◌<◌, ℕ, List, Op
 ghost use Rattle.lumos_depot.specs.Causes.{Rose};
 ghost use Rattle.lumos_depot.specs.declared.depot.FileKind.{FileKind};
 ghost use Rattle.lumos_top.specs.Outcome.{answer, answer_to, directory, limits_of, place_within};
-ghost use Rattle.lumos_top.specs.Running.{EndsOn, IsAttached, StopsAtWords, TextFits, UnlessBuild};
+ghost use Rattle.lumos_top.specs.Running.{EndShown, EndsOn, IsAttached, LeavesRuns, Shown, StopsAtWords, TakesAs, TextFits, UnlessGrid};
 ghost use Rattle.lumos_top.specs.Words.{ListFits, RequestFits, name_at, request, texts_of};
 
 use crate::building::build_grid;
@@ -56,41 +56,52 @@ fn limits_of(words: &ListWords) -> Result<TextLimits, TooMany>
     }
 }
 
-// Runs a program over a list, unless a stated number is too great.
-fn run_within<I: Source, O: Sink>(
+// Runs a program over the grid of a list in the directory that a word names, or in `.`, unless a stated number is too great.
+fn run_within<I: Source, D: Depot, O: Sink>(
     alloc: Global,
+    words: &[String],
     program: ProgramName,
+    directory: Option<usize>,
     iterations: u32,
     list: ListWords,
     input: &mut I,
+    depot: &mut D,
     out: &mut O,
 ) -> Result<Completed, Stop>
+    requires free { D.attached depot.old ≡ None }
+    requires named { IfSome directory (λ k. k < length words.now) }
     requires some { 1 ≤ iterations }
     requires few { iterations ≤ 1000000 }
     requires fits { ListFits list }
-    ensures usage { StopsAtWords (Ok (Request.Run program iterations list)) result }
-    ensures done { (files : FileKind → Option (List ℕ))
-        → EndsOn (answer_to (Ok (Request.Run program iterations list))) (record {
-          left_old = I.left input.old;
-          left_new = I.left input.new;
-          was = files;
-          is = files;
-          old_out = O.written out.old;
-          new_out = O.written out.new;
-        }) result }
+    ensures usage { StopsAtWords (Ok (Request.Run program directory iterations list)) result }
+    ensures done { EndsOn (answer_to (Ok (Request.Run program directory iterations list))) (record {
+      left_old = I.left input.old;
+      left_new = I.left input.new;
+      was = D.holds depot.old;
+      is = D.holds depot.new;
+      old_out = O.written out.old;
+      new_out = O.written out.new;
+    }) result }
+    ensures takes { (bytes : List ℕ) → I.left input.old ≡ Some bytes
+        → TakesAs (answer_to (Ok (Request.Run program directory iterations list)) bytes) (D.holds depot.old) (D.taken depot.old FileKind.Primary) (D.taken depot.new FileKind.Primary) result }
+    ensures leaves { LeavesRuns D.holds D.taken D.stored depot.old depot.new }
+    ensures shown { EndShown program result }
+    ensures attached { IsAttached (place_within (limits_of list) (name_at (texts_of words.now) directory)) (D.attached depot.new) result }
     ensures input_later { I.faults input.old ≤ I.faults input.new }
+    ensures depot_later { D.faults depot.old ≤ D.faults depot.new }
     ensures out_later { O.faults out.old ≤ O.faults out.new }
     ensures read { result ≡ Err Stop.Read → Rose (I.faults input.old) (I.faults input.new) }
-    ensures depot { result ≡ Err Stop.Depot → ⊥ }
+    ensures depot { result ≡ Err Stop.Depot → Rose (D.faults depot.old) (D.faults depot.new) }
     ensures write { result ≡ Err Stop.Write → Rose (O.faults out.old) (O.faults out.new) }
 {
     match limits_of(&list) {
         Ok(text) => {
+            let path = name_of(words, directory);
             let limits = RunLimits {
                 parts: list.parts as u32,
                 iterations,
             };
-            run(alloc, program, limits, text, input, out)
+            run(alloc, path, program, limits, text, input, depot, out)
         }
         Err(many) => Err(Stop::TooMany(many)),
     }
@@ -118,6 +129,9 @@ fn build_within<I: Source, D: Depot, O: Sink>(
       old_out = O.written out.old;
       new_out = O.written out.new;
     }) result }
+    ensures takes { (bytes : List ℕ) → I.left input.old ≡ Some bytes
+        → TakesAs (answer_to (Ok (Request.Build directory list)) bytes) (D.holds depot.old) (D.taken depot.old FileKind.Primary) (D.taken depot.new FileKind.Primary) result }
+    ensures leaves { LeavesRuns D.holds D.taken D.stored depot.old depot.new }
     ensures attached { IsAttached (place_within (limits_of list) (name_at (texts_of words.now) directory)) (D.attached depot.new) result }
     ensures input_later { I.faults input.old ≤ I.faults input.new }
     ensures depot_later { D.faults depot.old ≤ D.faults depot.new }
@@ -158,8 +172,12 @@ pub fn perform<I: Source, D: Depot, O: Sink>(
       old_out = O.written out.old;
       new_out = O.written out.new;
     }) result }
+    ensures takes { (bytes : List ℕ) → I.left input.old ≡ Some bytes
+        → TakesAs (answer (texts_of words.now) bytes) (D.holds depot.old) (D.taken depot.old FileKind.Primary) (D.taken depot.new FileKind.Primary) result }
+    ensures leaves { LeavesRuns D.holds D.taken D.stored depot.old depot.new }
+    ensures shown { Shown (request (texts_of words.now)) result }
     ensures attached { IsAttached (directory (texts_of words.now)) (D.attached depot.new) result }
-    ensures kept { UnlessBuild (request (texts_of words.now)) (depot.new ≡ depot.old) }
+    ensures kept { UnlessGrid (request (texts_of words.now)) (depot.new ≡ depot.old) }
     ensures input_later { I.faults input.old ≤ I.faults input.new }
     ensures depot_later { D.faults depot.old ≤ D.faults depot.new }
     ensures out_later { O.faults out.old ≤ O.faults out.new }
@@ -171,9 +189,12 @@ pub fn perform<I: Source, D: Depot, O: Sink>(
         Ok(request) => match request {
             Request::Run {
                 program,
+                directory,
                 iterations,
                 list,
-            } => run_within(alloc, program, iterations, list, input, out),
+            } => run_within(
+                alloc, words, program, directory, iterations, list, input, depot, out,
+            ),
             Request::Build { directory, list } => {
                 build_within(alloc, words, directory, list, input, depot, out)
             }

@@ -6,13 +6,14 @@ ghost use Rattle.lumos_depot.specs.Streams.{Writes};
 ghost use Rattle.lumos_law.specs.Sync.{IsChunk};
 ghost use Rattle.partition.specs.Parts.{chunk_of};
 ghost use Rattle.lumos_top.specs.Replays.{chunk_lines, events_line, final_line, final_lines, parts_lines};
-ghost use Rattle.lumos_top.specs.Report.{head_line, value_line};
+ghost use Rattle.lumos_report.specs.Report.{head_line, value_line};
 
-use crate::report::{head_text, value_text, write_line};
 use flight_core::Replay;
-use lumos_base::Line;
+use grid_format::GridInfo;
+use lumos_base::{Line, Vertex};
 use lumos_depot::{Failed, Sink};
 use lumos_law::VertexProgram;
+use lumos_report::{write_head, write_value};
 use partition::Parts;
 
 // The line of a final chunk.
@@ -56,8 +57,9 @@ fn write_chunk<G: VertexProgram, O: Sink>(
     ensures cause { HasCause (O.faults out.old) (O.faults out.new) result }
 {
     for k in 0..values.len() {
-        let line = value_text(program, first + k as u32, &values[k]);
-        match write_line(out, &line) {
+        let mut shown = Line::new();
+        program.show(&values[k], &mut shown);
+        match write_value(out, Vertex(first + k as u32), &shown) {
             Ok(()) => {}
             Err(_) => return Err(Failed),
         }
@@ -84,7 +86,7 @@ fn write_final<G: VertexProgram, O: Sink>(
     let _few = parts.vertices();
     let first = parts.range_of(column).first;
     match replay.final_values(time, column) {
-        Some(values) => match write_line(out, &final_text(time, column)) {
+        Some(values) => match out.write_all(final_text(time, column).bytes()) {
             Ok(()) => write_chunk(out, program, first, values),
             Err(_) => Err(Failed),
         },
@@ -154,7 +156,7 @@ fn write_body<G: VertexProgram, O: Sink>(
     ensures cause { HasCause (O.faults out.old) (O.faults out.new) result }
 {
     match write_times(out, program, replay, parts, shown) {
-        Ok(()) => write_line(out, &events_text(events)),
+        Ok(()) => out.write_all(events_text(events).bytes()),
         Err(_) => Err(Failed),
     }
 }
@@ -175,14 +177,19 @@ pub fn write_replay<G: VertexProgram, O: Sink>(
     requires program { replay.now.program ≡ program.now }
     requires parts { replay.now.cut ≡ parts.now }
     ensures bytes { Writes (O.written out.old) (O.written out.new) result
-        (head_line (G.name_text program.now) parts.now.vertices edges parts.now.parts
+        (head_line (G.name_text program.now) (record { version = 1; parts = parts.now.parts; vertices = parts.now.vertices; edges = edges })
         ++ (final_lines (G.model program.now) replay.now.edges parts.now.vertices (chunk_of parts.now) replay.now.state parts.now.parts shown ++ events_line events)) }
     ensures cause { HasCause (O.faults out.old) (O.faults out.new) result }
 {
-    match write_line(
-        out,
-        &head_text(program, u64::from(parts.vertices()), edges, parts.parts()),
-    ) {
+    let mut name = Line::new();
+    program.name(&mut name);
+    let head = GridInfo {
+        version: 1,
+        parts: parts.parts(),
+        vertices: parts.vertices(),
+        edges,
+    };
+    match write_head(out, &name, head) {
         Ok(()) => write_body(out, program, replay, parts, shown, events),
         Err(_) => Err(Failed),
     }

@@ -1,6 +1,8 @@
 // Whole runs over objects in memory: printed texts, statuses and fault lines.
+ghost use Rattle.std.specs.Prelude.{◌≡◌, None};
+
 use crate::{Status, lumos};
-use lumos_depot::{MemDepot, MemSink, MemSource};
+use lumos_depot::{FileKind, MemDepot, MemSink, MemSource};
 use std::alloc::Global;
 use std::process::Abort;
 use std::test::Fail;
@@ -28,7 +30,7 @@ const ROW: Row<'static> = Row {
     step: 5,
     fails: &[],
     depot_fails: &[],
-    room: 400,
+    room: 600,
     status: Status::Done,
     out: "",
     err: "",
@@ -49,17 +51,24 @@ fn words_of(alloc: Global, text: &str) -> Result<Vec<String>, Fail> {
 }
 
 fn check(rt: &impl Abort, alloc: Global, row: &Row) -> Result<(), Fail> {
+    let mut depot = MemDepot::new(alloc, row.depot_fails)
+        .ok()
+        .expect(rt, "memory");
+    check_over(rt, alloc, row, &mut depot)
+}
+
+// The same over files that may be there already.
+fn check_over(rt: &impl Abort, alloc: Global, row: &Row, depot: &mut MemDepot) -> Result<(), Fail>
+    requires { depot.old.path ≡ None }
+{
     let words = words_of(alloc, row.words)?;
     let step = row.step.max(1);
     let mut input = MemSource::new(alloc, row.input.as_bytes(), step, row.fails)
         .ok()
         .expect(rt, "memory");
-    let mut depot = MemDepot::new(alloc, row.depot_fails)
-        .ok()
-        .expect(rt, "memory");
     let mut out = MemSink::new(alloc, row.room, &[]).ok().expect(rt, "memory");
     let mut err = MemSink::new(alloc, 99, &[]).ok().expect(rt, "memory");
-    let status = lumos(alloc, &words, &mut input, &mut depot, &mut out, &mut err);
+    let status = lumos(alloc, &words, &mut input, depot, &mut out, &mut err);
     assert_eq!(rt; status, row.status, "{}", row.words);
     assert_eq!(rt; out.bytes(), row.out.as_bytes(), "{}", row.words);
     assert_eq!(rt; err.bytes(), row.err.as_bytes(), "{}", row.words);
@@ -74,204 +83,257 @@ fn check(rt: &impl Abort, alloc: Global, row: &Row) -> Result<(), Fail> {
     Ok(())
 }
 
-const FOUR: &str = "0 2\n2 1\n3 2\n0 1\n";
-
-const FOUR_REPORT: &str =
-    "lumos components vertices 4 edges 4 parts 2\niteration 0\n0 0\n1 1\n2 2\n3 3\niteration 1 moved 2\n0 0\n1 0\n2 0\n3 3\niteration 2 moved 0\n0 0\n1 0\n2 0\n3 3\nstill 2\n";
-
-#[test]
-fn runs_print_their_reports(rt: HostRuntime) -> Result<(), Fail> {
-    let reports = [
-        ("run components --parts 2 --iterations 5", FOUR, FOUR_REPORT),
-        (
-            "run components --parts 4 --iterations 10",
-            "",
-            "lumos components vertices 0 edges 0 parts 4\niteration 0\niteration 1 moved 0\nstill 1\n",
-        ),
-        (
-            "run components --parts 8 --iterations 10",
-            "0 0\n",
-            "lumos components vertices 1 edges 1 parts 8\niteration 0\n0 0\niteration 1 moved 0\n0 0\nstill 1\n",
-        ),
-        (
-            "run components --parts 1 --iterations 10",
-            "# Nodes: 3\r\n\n% c\n0\t1\r\n1 2",
-            "lumos components vertices 3 edges 2 parts 1\niteration 0\n0 0\n1 1\n2 2\niteration 1 moved 2\n0 0\n1 0\n2 1\niteration 2 moved 1\n0 0\n1 0\n2 0\niteration 3 moved 0\n0 0\n1 0\n2 0\nstill 3\n",
-        ),
-        (
-            "run tally --parts 2 --iterations 3",
-            "0 1\n0 1\n",
-            "lumos tally vertices 2 edges 2 parts 2\niteration 0\n0 0\n1 0\niteration 1 moved 1\n0 0\n1 2\niteration 2 moved 1\n0 0\n1 4\niteration 3 moved 1\n0 0\n1 6\nlimit 3\n",
-        ),
-        (
-            "run components --parts 1 --iterations 1 --max-bytes 3",
-            "0 1",
-            "lumos components vertices 2 edges 1 parts 1\niteration 0\n0 0\n1 1\niteration 1 moved 1\n0 0\n1 0\nlimit 1\n",
-        ),
-    ];
-    for (words, input, out) in reports {
-        let row = Row {
-            words,
-            input,
-            step: 3,
-            out,
-            ..ROW
-        };
-        check(&rt, rt.alloc(), &row)?;
+fn check_all(rt: &impl Abort, alloc: Global, rows: &[Row]) -> Result<(), Fail> {
+    for row in rows {
+        check(rt, alloc, row)?;
     }
     Ok(())
 }
 
-#[test]
-fn faults_have_their_lines(rt: HostRuntime) -> Result<(), Fail> {
-    let faults = [
-        ("", "", Status::Usage, "lumos: usage: no command\n"),
-        ("walk", "", Status::Usage, "lumos: usage: unknown command\n"),
-        (
-            "run components --parts",
-            "",
-            Status::Usage,
-            "lumos: usage: words not understood\n",
-        ),
-        (
-            "run walk --parts 1 --iterations 1",
-            "",
-            Status::Usage,
-            "lumos: usage: unknown program\n",
-        ),
-        (
-            "build --parts 2 --dir d",
-            "",
-            Status::Usage,
-            "lumos: usage: words not understood\n",
-        ),
-        (
-            "build --dir \"\" --parts 2",
-            "",
-            Status::Usage,
-            "lumos: usage: empty directory\n",
-        ),
-        (
-            "build --dir d --parts 300",
-            "",
-            Status::Limit,
-            "lumos: limit: parts 300 over 256\n",
-        ),
-        (
-            "run components --parts x --iterations 1",
-            "",
-            Status::Usage,
-            "lumos: usage: bad number for --parts\n",
-        ),
-        (
-            "run components --parts 0 --iterations 1",
-            "",
-            Status::Usage,
-            "lumos: usage: number outside its range for --parts\n",
-        ),
-        (
-            "run components --parts 300 --iterations 1",
-            "",
-            Status::Limit,
-            "lumos: limit: parts 300 over 256\n",
-        ),
-        (
-            "run components --parts 1 --iterations 1 --vertices 268435457",
-            "",
-            Status::Limit,
-            "lumos: limit: vertices 268435457 over 268435456\n",
-        ),
-        (
-            "run components --parts 1 --iterations 1",
-            "0 1\n3 4 5 6\n",
-            Status::Input,
-            "lumos: input: line 2: too many fields\n",
-        ),
-        (
-            "run components --parts 1 --iterations 1",
-            "0 1\n1 x\n",
-            Status::Input,
-            "lumos: input: line 2: not a number\n",
-        ),
-        (
-            "run components --parts 1 --iterations 1",
-            "0 1\n1\n",
-            Status::Input,
-            "lumos: input: line 2: missing target\n",
-        ),
-        (
-            "run components --parts 1 --iterations 1",
-            "0 1\n18446744073709551616 0\n",
-            Status::Input,
-            "lumos: input: line 2: number too large\n",
-        ),
-        (
-            "run components --parts 1 --iterations 1",
-            "0 1\n268435456 0\n",
-            Status::Input,
-            "lumos: input: line 2: vertex too large\n",
-        ),
-        (
-            "run components --parts 1 --iterations 1",
-            "0 1\n0 1 4294967296\n",
-            Status::Input,
-            "lumos: input: line 2: weight too large\n",
-        ),
-        (
-            "run components --parts 1 --iterations 1 --vertices 2",
-            "0 1\n0 2\n",
-            Status::Input,
-            "lumos: input: line 2: vertex beyond\n",
-        ),
-        (
-            "run components --parts 1 --iterations 1 --max-edges 2",
-            "0 1\n1 2\n2 3\n",
-            Status::Limit,
-            "lumos: limit: edges 2\n",
-        ),
-        (
-            "run components --parts 1 --iterations 1 --max-edges 2 --both",
-            "0 1\n1 2\n",
-            Status::Limit,
-            "lumos: limit: edges 2\n",
-        ),
-        (
-            "run components --parts 1 --iterations 1 --max-bytes 3",
-            "0 1\n",
-            Status::Limit,
-            "lumos: limit: bytes 3\n",
-        ),
-    ];
+// Words, an input, and the status and the fault line that they come to.
+type Fault = (&'static str, &'static str, Status, &'static str);
+
+fn check_faults(
+    rt: &impl Abort,
+    alloc: Global,
+    faults: &[Fault],
+    path: Option<&'static str>,
+) -> Result<(), Fail> {
     for (words, input, status, err) in faults {
         let row = Row {
-            words,
-            input,
-            status,
-            err,
+            words: *words,
+            input: *input,
+            status: *status,
+            err: *err,
+            path,
             ..ROW
         };
-        check(&rt, rt.alloc(), &row)?;
+        check(rt, alloc, &row)?;
     }
-    let second_read_fails = Row {
+    Ok(())
+}
+
+const FOUR: &str = "0 2\n2 1\n3 2\n0 1\n";
+
+const REPORTS: [Row<'static>; 6] = [
+    Row {
+        words: "run components --parts 2 --iterations 5",
+        input: FOUR,
+        out: "lumos components vertices 4 edges 4 parts 2\niteration 0\n0 0\n1 1\n2 2\n3 3\niteration 1 full primary 4 secondary 0 skipped 0 empty 0 moved 2\n0 0\n1 0\n2 0\n3 3\niteration 2 full primary 4 secondary 0 skipped 0 empty 0 moved 0\n0 0\n1 0\n2 0\n3 3\nstill 2\n",
+        path: Some("."),
+        ..ROW
+    },
+    Row {
+        words: "run components --parts 4 --iterations 10",
+        out: "lumos components vertices 0 edges 0 parts 4\niteration 0\niteration 1 full primary 0 secondary 0 skipped 0 empty 16 moved 0\nstill 1\n",
+        path: Some("."),
+        ..ROW
+    },
+    Row {
+        words: "run components --parts 8 --iterations 10",
+        input: "0 0\n",
+        out: "lumos components vertices 1 edges 1 parts 8\niteration 0\n0 0\niteration 1 full primary 1 secondary 0 skipped 0 empty 63 moved 0\n0 0\nstill 1\n",
+        path: Some("."),
+        ..ROW
+    },
+    Row {
+        words: "run components --parts 1 --iterations 10",
+        input: "# Nodes: 3\r\n\n% c\n0\t1\r\n1 2",
+        step: 3,
+        out: "lumos components vertices 3 edges 2 parts 1\niteration 0\n0 0\n1 1\n2 2\niteration 1 full primary 1 secondary 0 skipped 0 empty 0 moved 2\n0 0\n1 0\n2 1\niteration 2 full primary 1 secondary 0 skipped 0 empty 0 moved 1\n0 0\n1 0\n2 0\niteration 3 full primary 1 secondary 0 skipped 0 empty 0 moved 0\n0 0\n1 0\n2 0\nstill 3\n",
+        path: Some("."),
+        ..ROW
+    },
+    Row {
+        words: "run tally --dir d --parts 2 --iterations 3",
+        input: "0 1\n0 1\n",
+        out: "lumos tally vertices 2 edges 2 parts 2\niteration 0\n0 0\n1 0\niteration 1 full primary 1 secondary 0 skipped 0 empty 3 moved 1\n0 0\n1 2\niteration 2 full primary 1 secondary 0 skipped 0 empty 3 moved 1\n0 0\n1 4\niteration 3 full primary 1 secondary 0 skipped 0 empty 3 moved 1\n0 0\n1 6\nlimit 3\n",
+        path: Some("d"),
+        ..ROW
+    },
+    Row {
+        words: "run components --parts 1 --iterations 1 --max-bytes 3",
+        input: "0 1",
+        out: "lumos components vertices 2 edges 1 parts 1\niteration 0\n0 0\n1 1\niteration 1 full primary 1 secondary 0 skipped 0 empty 0 moved 1\n0 0\n1 0\nlimit 1\n",
+        path: Some("."),
+        ..ROW
+    },
+];
+
+#[test]
+fn runs_print_their_reports(rt: HostRuntime) -> Result<(), Fail> {
+    check_all(&rt, rt.alloc(), &REPORTS)
+}
+
+// Words that are faulty, or pass a limit.
+const FAULTS: [Fault; 12] = [
+    ("", "", Status::Usage, "lumos: usage: no command\n"),
+    ("walk", "", Status::Usage, "lumos: usage: unknown command\n"),
+    (
+        "run components --parts",
+        "",
+        Status::Usage,
+        "lumos: usage: words not understood\n",
+    ),
+    (
+        "run walk --parts 1 --iterations 1",
+        "",
+        Status::Usage,
+        "lumos: usage: unknown program\n",
+    ),
+    (
+        "build --parts 2 --dir d",
+        "",
+        Status::Usage,
+        "lumos: usage: words not understood\n",
+    ),
+    (
+        "build --dir \"\" --parts 2",
+        "",
+        Status::Usage,
+        "lumos: usage: empty directory\n",
+    ),
+    (
+        "build --dir d --parts 300",
+        "",
+        Status::Limit,
+        "lumos: limit: parts 300 over 256\n",
+    ),
+    (
+        "run components --parts 2 --dir d --iterations 1",
+        "",
+        Status::Usage,
+        "lumos: usage: words not understood\n",
+    ),
+    (
+        "run components --parts x --iterations 1",
+        "",
+        Status::Usage,
+        "lumos: usage: bad number for --parts\n",
+    ),
+    (
+        "run components --parts 0 --iterations 1",
+        "",
+        Status::Usage,
+        "lumos: usage: number outside its range for --parts\n",
+    ),
+    (
+        "run components --parts 300 --iterations 1",
+        "",
+        Status::Limit,
+        "lumos: limit: parts 300 over 256\n",
+    ),
+    (
+        "run components --parts 1 --iterations 1 --vertices 268435457",
+        "",
+        Status::Limit,
+        "lumos: limit: vertices 268435457 over 268435456\n",
+    ),
+];
+
+// Lists that are faulty, or too long.
+const LIST_FAULTS: [Fault; 10] = [
+    (
+        "run components --parts 1 --iterations 1",
+        "0 1\n3 4 5 6\n",
+        Status::Input,
+        "lumos: input: line 2: too many fields\n",
+    ),
+    (
+        "run components --parts 1 --iterations 1",
+        "0 1\n1 x\n",
+        Status::Input,
+        "lumos: input: line 2: not a number\n",
+    ),
+    (
+        "run components --parts 1 --iterations 1",
+        "0 1\n1\n",
+        Status::Input,
+        "lumos: input: line 2: missing target\n",
+    ),
+    (
+        "run components --parts 1 --iterations 1",
+        "0 1\n18446744073709551616 0\n",
+        Status::Input,
+        "lumos: input: line 2: number too large\n",
+    ),
+    (
+        "run components --parts 1 --iterations 1",
+        "0 1\n268435456 0\n",
+        Status::Input,
+        "lumos: input: line 2: vertex too large\n",
+    ),
+    (
+        "run components --parts 1 --iterations 1",
+        "0 1\n0 1 4294967296\n",
+        Status::Input,
+        "lumos: input: line 2: weight too large\n",
+    ),
+    (
+        "run components --parts 1 --iterations 1 --vertices 2",
+        "0 1\n0 2\n",
+        Status::Input,
+        "lumos: input: line 2: vertex beyond\n",
+    ),
+    (
+        "run components --parts 1 --iterations 1 --max-edges 2",
+        "0 1\n1 2\n2 3\n",
+        Status::Limit,
+        "lumos: limit: edges 2\n",
+    ),
+    (
+        "run components --parts 1 --iterations 1 --max-edges 2 --both",
+        "0 1\n1 2\n",
+        Status::Limit,
+        "lumos: limit: edges 2\n",
+    ),
+    (
+        "run components --parts 1 --iterations 1 --max-bytes 3",
+        "0 1\n",
+        Status::Limit,
+        "lumos: limit: bytes 3\n",
+    ),
+];
+
+// A read that fails, an output with little room, and a call of the depot that fails.
+const FAILING: [Row<'static>; 3] = [
+    Row {
         words: "run components --parts 2 --iterations 5",
         input: FOUR,
         step: 4,
         fails: &[2],
         status: Status::ReadFault,
         err: "lumos: read fault\n",
+        path: Some("."),
         ..ROW
-    };
-    check(&rt, rt.alloc(), &second_read_fails)?;
-    let little_room = Row {
+    },
+    Row {
         words: "run components --parts 2 --iterations 5",
         input: FOUR,
         room: 10,
         status: Status::WriteFault,
         out: "lumos comp",
         err: "lumos: write fault\n",
+        path: Some("."),
         ..ROW
-    };
-    check(&rt, rt.alloc(), &little_room)
+    },
+    Row {
+        words: "run components --parts 2 --iterations 5",
+        input: FOUR,
+        depot_fails: &[2],
+        status: Status::DepotFault,
+        out: "",
+        err: "lumos: depot fault\n",
+        path: Some("."),
+        ..ROW
+    },
+];
+
+#[test]
+fn faults_have_their_lines(rt: HostRuntime) -> Result<(), Fail> {
+    check_faults(&rt, rt.alloc(), &FAULTS, None)?;
+    check_faults(&rt, rt.alloc(), &LIST_FAULTS, Some("."))?;
+    check_all(&rt, rt.alloc(), &FAILING)
 }
 
 // A list whose grid over two parts has a vertex more in the first part.
@@ -283,147 +345,149 @@ const FIVE: Row<'static> = Row {
     ..ROW
 };
 
-#[test]
-fn grids_are_built_where_the_words_say(rt: HostRuntime) -> Result<(), Fail> {
-    check(&rt, rt.alloc(), &FIVE)?;
-    let here = Row {
+const GRIDS: [Row<'static>; 6] = [
+    FIVE,
+    Row {
         words: "build --parts 2",
         path: Some("."),
         ..FIVE
-    };
-    check(&rt, rt.alloc(), &here)?;
-    let faulty = Row {
+    },
+    Row {
         input: "0 4\n3\n",
         status: Status::Input,
         out: "",
         err: "lumos: input: line 2: missing target\n",
         ..FIVE
-    };
-    check(&rt, rt.alloc(), &faulty)?;
-    let little_room = Row {
+    },
+    Row {
         room: 4,
         status: Status::WriteFault,
         out: "grid",
         err: "lumos: write fault\n",
         ..FIVE
-    };
-    check(&rt, rt.alloc(), &little_room)?;
-    let no_directory = Row {
+    },
+    Row {
         depot_fails: &[1],
         status: Status::DepotFault,
         out: "",
         err: "lumos: depot fault\n",
         path: None,
         ..FIVE
-    };
-    check(&rt, rt.alloc(), &no_directory)?;
-    let no_spool = Row {
+    },
+    Row {
         depot_fails: &[2],
-        path: Some("d"),
-        ..no_directory
-    };
-    check(&rt, rt.alloc(), &no_spool)
+        status: Status::DepotFault,
+        out: "",
+        err: "lumos: depot fault\n",
+        ..FIVE
+    },
+];
+
+#[test]
+fn grids_are_built_where_the_words_say(rt: HostRuntime) -> Result<(), Fail> {
+    check_all(&rt, rt.alloc(), &GRIDS)
+}
+
+#[test]
+fn a_run_takes_the_list_and_not_the_grid_that_lies_there(rt: HostRuntime) -> Result<(), Fail> {
+    let mut depot = MemDepot::new(rt.alloc(), &[]).ok().expect(&rt, "memory");
+    check_over(&rt, rt.alloc(), &FIVE, &mut depot)?;
+    depot.detach();
+    check_over(&rt, rt.alloc(), &REPORTS[0], &mut depot)?;
+    assert_eq!(rt; depot.taken_of(FileKind::Primary), 96);
+    Ok(())
 }
 
 // Events that go through three iterations, each begun before the one before it is done.
-const EVENTS: &str =
-    "feed 1 0 0\nfeed 1 1 0\nfinal 1 0\nfeed 2 0 0\nfeed 2 0 1\nfeed 1 0 1\nfeed 1 1 1\nfinal 1 1\nfeed 2 1 0\nfinal 2 0\nfeed 3 0 1\nfeed 2 1 1\nfinal 2 1\nfeed 3 0 0\nfeed 3 1 0\nfinal 3 0\nfeed 3 1 1\nfinal 3 1\nedges\n0 1\n";
+const WHOLE: Row<'static> = Row {
+    words: "replay tally --parts 2",
+    input: "feed 1 0 0\nfeed 1 1 0\nfinal 1 0\nfeed 2 0 0\nfeed 2 0 1\nfeed 1 0 1\nfeed 1 1 1\nfinal 1 1\nfeed 2 1 0\nfinal 2 0\nfeed 3 0 1\nfeed 2 1 1\nfinal 2 1\nfeed 3 0 0\nfeed 3 1 0\nfinal 3 0\nfeed 3 1 1\nfinal 3 1\nedges\n0 1\n",
+    step: 7,
+    out: "lumos tally vertices 2 edges 1 parts 2\nfinal 0 0\n0 0\nfinal 0 1\n1 0\nfinal 1 0\n0 0\nfinal 1 1\n1 1\nfinal 2 0\n0 0\nfinal 2 1\n1 2\nfinal 3 0\n0 0\nfinal 3 1\n1 3\nevents 18\n",
+    ..ROW
+};
 
-#[test]
-fn replays_show_the_final_values(rt: HostRuntime) -> Result<(), Fail> {
-    let whole = Row {
-        words: "replay tally --parts 2",
-        input: EVENTS,
-        step: 7,
-        out: "lumos tally vertices 2 edges 1 parts 2\nfinal 0 0\n0 0\nfinal 0 1\n1 0\nfinal 1 0\n0 0\nfinal 1 1\n1 1\nfinal 2 0\n0 0\nfinal 2 1\n1 2\nfinal 3 0\n0 0\nfinal 3 1\n1 3\nevents 18\n",
-        ..ROW
-    };
-    check(&rt, rt.alloc(), &whole)?;
-    let no_edges = Row {
+const REPLAYS: [Row<'static>; 3] = [
+    WHOLE,
+    Row {
         input: "# none\n\nedges",
         out: "lumos tally vertices 0 edges 0 parts 2\nfinal 0 0\nfinal 0 1\nevents 0\n",
-        ..whole
-    };
-    check(&rt, rt.alloc(), &no_edges)?;
-    let little_room = Row {
+        ..WHOLE
+    },
+    Row {
         room: 9,
         status: Status::WriteFault,
         out: "lumos tal",
         err: "lumos: write fault\n",
-        ..whole
-    };
-    check(&rt, rt.alloc(), &little_room)
+        ..WHOLE
+    },
+];
+
+#[test]
+fn replays_show_the_final_values(rt: HostRuntime) -> Result<(), Fail> {
+    check_all(&rt, rt.alloc(), &REPLAYS)
 }
+
+const REPLAY_FAULTS: [Fault; 9] = [
+    (
+        "replay tally --parts 2",
+        "feed 1 0 0\nfeed 1 1 0\nfinal 1 0\nfeed 1 0 1\nfeed 2 1 1\nedges\n0 1\n",
+        Status::Schedule,
+        "lumos: illegal: event 5: source not final\n",
+    ),
+    (
+        "replay components --parts 2",
+        "skip 1 0 1\nedges\n0 1\n",
+        Status::Schedule,
+        "lumos: illegal: event 1: vertex 0 contributes\n",
+    ),
+    (
+        "replay components --parts 2",
+        "feed 1 0 0\nfinal 1 0\nedges\n0 1\n",
+        Status::Schedule,
+        "lumos: illegal: event 2: row 1 not done\n",
+    ),
+    (
+        "replay components --parts 2",
+        "final 1 0\n",
+        Status::Input,
+        "lumos: schedule: line 1: ended\n",
+    ),
+    (
+        "replay components --parts 2",
+        "\nfeed 1 0\nedges\n",
+        Status::Input,
+        "lumos: schedule: line 2: bad\n",
+    ),
+    (
+        "replay components --parts 2",
+        "final 1 0\nedges\n0 1\n0 4096\n",
+        Status::Input,
+        "lumos: input: line 2: vertex too large\n",
+    ),
+    (
+        "replay components --parts 65",
+        "",
+        Status::Limit,
+        "lumos: limit: parts 65 over 64\n",
+    ),
+    (
+        "replay components --parts 0",
+        "",
+        Status::Usage,
+        "lumos: usage: number outside its range for --parts\n",
+    ),
+    (
+        "replay components",
+        "",
+        Status::Usage,
+        "lumos: usage: words not understood\n",
+    ),
+];
 
 #[test]
 fn replays_stop_at_their_first_fault(rt: HostRuntime) -> Result<(), Fail> {
-    let faults = [
-        (
-            "replay tally --parts 2",
-            "feed 1 0 0\nfeed 1 1 0\nfinal 1 0\nfeed 1 0 1\nfeed 2 1 1\nedges\n0 1\n",
-            Status::Schedule,
-            "lumos: illegal: event 5: source not final\n",
-        ),
-        (
-            "replay components --parts 2",
-            "skip 1 0 1\nedges\n0 1\n",
-            Status::Schedule,
-            "lumos: illegal: event 1: vertex 0 contributes\n",
-        ),
-        (
-            "replay components --parts 2",
-            "feed 1 0 0\nfinal 1 0\nedges\n0 1\n",
-            Status::Schedule,
-            "lumos: illegal: event 2: row 1 not done\n",
-        ),
-        (
-            "replay components --parts 2",
-            "final 1 0\n",
-            Status::Input,
-            "lumos: schedule: line 1: ended\n",
-        ),
-        (
-            "replay components --parts 2",
-            "\nfeed 1 0\nedges\n",
-            Status::Input,
-            "lumos: schedule: line 2: bad\n",
-        ),
-        (
-            "replay components --parts 2",
-            "final 1 0\nedges\n0 1\n0 4096\n",
-            Status::Input,
-            "lumos: input: line 2: vertex too large\n",
-        ),
-        (
-            "replay components --parts 65",
-            "",
-            Status::Limit,
-            "lumos: limit: parts 65 over 64\n",
-        ),
-        (
-            "replay components --parts 0",
-            "",
-            Status::Usage,
-            "lumos: usage: number outside its range for --parts\n",
-        ),
-        (
-            "replay components",
-            "",
-            Status::Usage,
-            "lumos: usage: words not understood\n",
-        ),
-    ];
-    for (words, input, status, err) in faults {
-        let row = Row {
-            words,
-            input,
-            status,
-            err,
-            ..ROW
-        };
-        check(&rt, rt.alloc(), &row)?;
-    }
-    Ok(())
+    check_faults(&rt, rt.alloc(), &REPLAY_FAULTS, None)
 }
 
 #[test]

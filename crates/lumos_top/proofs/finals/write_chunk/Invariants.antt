@@ -1,8 +1,8 @@
 use Rattle.std.proofs.Common.{◌≡◌, ◌≤◌, ℕ, ◌+◌}
 use Rattle.lumos_depot.specs.Streams.{after_told}
 use Rattle.lumos_law.specs.Sync.{IsChunk}
-use Rattle.lumos_top.specs.Report.{value_line}
-use Rattle.lumos_top.proofs.Repeats.{texts}
+use Rattle.lumos_report.specs.Report.{value_line}
+use Rattle.early_engine.proofs.Repeats.{texts}
 use Rattle.lumos_top.proofs.finals.write_chunk.Given as goal
 
 abbrev pub invariant-loop-k : goal.invariant-loop-k

@@ -2,7 +2,7 @@ use Rattle.std.proofs.Common.{◌≡◌, ◌≤◌}
 use Rattle.lumos_depot.specs.Streams.{after_told}
 use Rattle.partition.specs.Parts.{chunk_of}
 use Rattle.lumos_top.specs.Replays.{chunk_lines}
-use Rattle.lumos_top.proofs.Repeats.{texts}
+use Rattle.early_engine.proofs.Repeats.{texts}
 use Rattle.lumos_top.proofs.finals.write_parts.Given as goal
 
 abbrev pub invariant-loop-column : goal.invariant-loop-column

@@ -1,37 +1,92 @@
-use Rattle.std.proofs.Common.{◌≡◌, length, sym, ap, ◌∙◌, subst}
-use Rattle.lumos_law.specs.Sync.{values, IsChunk}
-use Rattle.partition.specs.Parts.{Cut}
-use Rattle.lumos_top.specs.Graph.{IsGraph}
-use Rattle.lumos_top.specs.Grid.{HoldsBlocks}
-use Rattle.lumos_top.proofs.RunLemmas.{cut_is, written_at, written_front, written_whole}
+use Rattle.std.specs.Prelude.{◌*◌, IfErr, IfOk}
+use Rattle.std.proofs.Common.{Ok, Err, sym, subst}
+use Rattle.lumos_depot.specs.declared.depot.FileKind.TheVariants.{Meta, Primary}
+use Rattle.lumos_law.specs.Sync.{ending}
+use Rattle.partition.specs.Parts.{chunk_of}
+use Rattle.grid_build.specs.Outside.{RoseBy}
+use Rattle.early_engine.specs.Engines.{cut_in}
+use Rattle.early_engine.specs.Making.{IsOver}
+use Rattle.early_engine.specs.Turns.{RunIsOver}
+use Rattle.early_engine.specs.Passes.{bytes_of, passes}
+use Rattle.early_engine.specs.Report.{report}
+use Rattle.early_engine.specs.Runs.{RunComes}
+use Rattle.lumos_top.specs.Outcome.{ran_by}
+use Rattle.lumos_top.specs.Running.{IfDamaged, IfOver, IsWrongIn, Leaves, RunTakes}
+use Rattle.lumos_top.proofs.GridEnds.{damaged_open, damaged_stop, leaves_then, open_leaves, run_leaves_files, over_end, over_stop, run_told, run_took, takes_stop}
 use Rattle.lumos_top.proofs.running.run_program.Goals as goal
 
-pub returns-in-Ok-write_report-clause-leaves : goal.returns-in-Ok-write_report-clause-leaves
-returns-in-Ok-write_report-clause-leaves g c =
-    let p = g.G.VertexProgram.model c.args.program.now in
-    let name = g.G.VertexProgram.name_text c.args.program.now in
-    let edges = c.args.list.edges.items in
-    let cut : c.in-Ok-new.blocks.cut ≡ record { vertices = c.args.list.vertices; parts = c.args.limits.parts } =
-    c.in-Ok-new.ensures.cut ∙ cut_is c.args.list.vertices c.args.limits.parts c.in-Ok.parts (sym c.new.ensures ∙ c.in-Ok.is) in
-    let holds = subst (λ es. HoldsBlocks es c.in-Ok-new.blocks) c.deref.ensures.value c.in-Ok-new.ensures.blocks in
-    let graph = subst (λ n. IsGraph n edges) (sym (ap (λ (k : Cut). k.vertices) cut)) c.requires.graph in
-    let chunk = subst (λ es. IsChunk (values p es 0) 0 c.in-Ok-make_room.room.before.items) c.deref-2.ensures.value c.in-Ok-make_room.ensures.values in
-    let counted : c.len-count.result ≡ length edges = c.len-count.ensures ∙ sym c.deref.ensures.len ∙ ap length c.deref.ensures.value in
-    let wrote = c.write_report.ensures.bytes edges holds graph counted chunk in
-    written_whole _ _ _ _ c.write_report.result c.in-Ok-write_report.ended c.in-Ok-write_report.is
-    (written_at p name edges c.args.limits.iterations c.args.list.vertices c.args.limits.parts c.in-Ok-new.blocks.cut _ _ c.write_report.result cut wrote)
+pub returns-in-Ok-run-clause-leaves : goal.returns-in-Ok-run-clause-leaves
+returns-in-Ok-run-clause-leaves g c = λ list parts of.
+    let model = g.G.VertexProgram.model in
+    let name = g.G.VertexProgram.name_text in
+    let e = c.in-Ok.engine in
+    let ran = ran_by (model c.args.program) (name c.args.program) parts c.args.iterations list in
+    subst (λ end. Leaves ran (g.D.Depot.holds c.args.depot.now) (g.O.Sink.written c.args.out.now) (g.O.Sink.written c.run.new.out) (Ok end)) (sym c.ended_by.ensures)
+    (run_told model name c.args.program list parts _ c.args.info _ (g.D.Depot.holds c.open.new.depot) e _ _ (Ok c.in-Ok-run.ending) c.in-Ok.ensures.program c.in-Ok.ensures.options c.in-Ok.ensures.info of
+    c.in-Ok.ensures.told
+    (λ edges opened. subst (RunComes (ending (model e.program) edges e.info.vertices e.options.iterations) (report (model e.program) (name e.program) e.options.show edges e.info.vertices e.info.parts e.options.iterations) _ _) c.in-Ok-run.is (c.run.ensures.told edges opened)))
 
-pub returns-clause-leaves : goal.returns-clause-leaves
-returns-clause-leaves g c =
-    let p = g.G.VertexProgram.model c.args.program.now in
-    let name = g.G.VertexProgram.name_text c.args.program.now in
-    let edges = c.args.list.edges.items in
-    let cut : c.in-Ok-new.blocks.cut ≡ record { vertices = c.args.list.vertices; parts = c.args.limits.parts } =
-    c.in-Ok-new.ensures.cut ∙ cut_is c.args.list.vertices c.args.limits.parts c.in-Ok.parts (sym c.new.ensures ∙ c.in-Ok.is) in
-    let holds = subst (λ es. HoldsBlocks es c.in-Ok-new.blocks) c.deref.ensures.value c.in-Ok-new.ensures.blocks in
-    let graph = subst (λ n. IsGraph n edges) (sym (ap (λ (k : Cut). k.vertices) cut)) c.requires.graph in
-    let chunk = subst (λ es. IsChunk (values p es 0) 0 c.in-Ok-make_room.room.before.items) c.deref-2.ensures.value c.in-Ok-make_room.ensures.values in
-    let counted : c.len-count.result ≡ length edges = c.len-count.ensures ∙ sym c.deref.ensures.len ∙ ap length c.deref.ensures.value in
-    let wrote = c.write_report.ensures.bytes edges holds graph counted chunk in
-    written_front _ _ _ _ c.write_report.result c.in-Err.field-0 c.in-Err.is
-    (written_at p name edges c.args.limits.iterations c.args.list.vertices c.args.limits.parts c.in-Ok-new.blocks.cut _ _ c.write_report.result cut wrote)
+pub returns-in-Err-run-clause-leaves : goal.returns-in-Err-run-clause-leaves
+returns-in-Err-run-clause-leaves g c = λ list parts of.
+    let model = g.G.VertexProgram.model in
+    let name = g.G.VertexProgram.name_text in
+    let e = c.in-Ok.engine in
+    let ran = ran_by (model c.args.program) (name c.args.program) parts c.args.iterations list in
+    subst (Leaves ran (g.D.Depot.holds c.args.depot.now) (g.O.Sink.written c.args.out.now) (g.O.Sink.written c.run.new.out)) (sym c.run_stop.ensures)
+    (run_told model name c.args.program list parts _ c.args.info _ (g.D.Depot.holds c.open.new.depot) e _ _ (Err c.in-Err-run.fault) c.in-Ok.ensures.program c.in-Ok.ensures.options c.in-Ok.ensures.info of
+    c.in-Ok.ensures.told
+    (λ edges opened. subst (RunComes (ending (model e.program) edges e.info.vertices e.options.iterations) (report (model e.program) (name e.program) e.options.show edges e.info.vertices e.info.parts e.options.iterations) _ _) c.in-Err-run.is (c.run.ensures.told edges opened)))
+
+pub returns-in-Ok-run-clause-takes : goal.returns-in-Ok-run-clause-takes
+returns-in-Ok-run-clause-takes g c = λ list parts of.
+    let model = g.G.VertexProgram.model in
+    let name = g.G.VertexProgram.name_text in
+    let e = c.in-Ok.engine in
+    let ran = ran_by (model c.args.program) (name c.args.program) parts c.args.iterations list in
+    let t = g.D.Depot.taken in
+    subst (λ end. RunTakes ran (g.D.Depot.holds c.args.depot.now) (t c.args.depot.now Primary) (t c.run.new.depot Primary) (Ok end)) (sym c.ended_by.ensures)
+    (run_took model name c.args.program list parts _ c.args.info _ (g.D.Depot.holds c.open.new.depot) e _ _ c.in-Ok-run.ending (t c.args.depot.now Primary) (t c.open.new.depot Primary) (t c.run.new.depot Primary) c.in-Ok.ensures.program c.in-Ok.ensures.options c.in-Ok.ensures.info of
+    c.in-Ok.ensures.told
+    (λ edges opened. subst (RunComes (ending (model e.program) edges e.info.vertices e.options.iterations) (report (model e.program) (name e.program) e.options.show edges e.info.vertices e.info.parts e.options.iterations) _ _) c.in-Ok-run.is (c.run.ensures.told edges opened))
+    (λ edges opened. subst (λ r. IfOk r (λ end. RoseBy (t c.open.new.depot Primary) (t c.run.new.depot Primary) (end.iterations * bytes_of edges (chunk_of (cut_in e.info)) (passes e.info.parts)))) c.in-Ok-run.is (c.run.ensures.taken edges opened))
+    (c.open.ensures.reads.taken Primary (λ is. cc)))
+
+pub returns-in-Err-run-clause-takes : goal.returns-in-Err-run-clause-takes
+returns-in-Err-run-clause-takes g c = λ list parts of.
+    let ran = ran_by (g.G.VertexProgram.model c.args.program) (g.G.VertexProgram.name_text c.args.program) parts c.args.iterations list in
+    let t = g.D.Depot.taken in
+    subst (RunTakes ran (g.D.Depot.holds c.args.depot.now) (t c.args.depot.now Primary) (t c.run.new.depot Primary)) (sym c.run_stop.ensures) (takes_stop ran (g.D.Depot.holds c.args.depot.now) (t c.args.depot.now Primary) (t c.run.new.depot Primary) c.in-Err-run.fault)
+
+pub returns-in-Err-clause-runs : goal.returns-in-Err-clause-runs
+returns-in-Err-clause-runs g c = open_leaves g.D.Depot.holds g.D.Depot.taken g.D.Depot.stored g.D.Depot.faults g.D.Depot.attached _ _ c.open.ensures.reads
+
+pub returns-in-Ok-run-clause-runs : goal.returns-in-Ok-run-clause-runs
+returns-in-Ok-run-clause-runs g c =
+    let h = g.D.Depot.holds in
+    let t = g.D.Depot.taken in
+    let s = g.D.Depot.stored in
+    leaves_then h t s _ _ _ (open_leaves h t s g.D.Depot.faults g.D.Depot.attached _ _ c.open.ensures.reads) (run_leaves_files h t s g.D.Depot.faults g.D.Depot.attached _ _ c.run.ensures.streams)
+
+pub returns-in-Err-run-clause-runs : goal.returns-in-Err-run-clause-runs
+returns-in-Err-run-clause-runs g c =
+    let h = g.D.Depot.holds in
+    let t = g.D.Depot.taken in
+    let s = g.D.Depot.stored in
+    leaves_then h t s _ _ _ (open_leaves h t s g.D.Depot.faults g.D.Depot.attached _ _ c.open.ensures.reads) (run_leaves_files h t s g.D.Depot.faults g.D.Depot.attached _ _ c.run.ensures.streams)
+
+pub returns-in-Err-clause-damaged : goal.returns-in-Err-clause-damaged
+returns-in-Err-clause-damaged g c = subst (λ why. IfDamaged why IsWrongIn) (sym c.open_stop.ensures) (damaged_open c.args.info (g.D.Depot.holds c.args.depot.now Meta) c.in-Err.fault c.in-Err.ensures.damaged)
+
+pub returns-in-Ok-run-clause-over : goal.returns-in-Ok-run-clause-over
+returns-in-Ok-run-clause-over g c =
+    subst (λ end. IfOver end (IsOver g.G.Value.Fixed.is_in_range g.G.Sum.Fixed.is_in_range (g.G.VertexProgram.model c.args.program))) (sym c.ended_by.ensures) (over_end g.G.Value.Fixed.is_in_range g.G.Sum.Fixed.is_in_range (g.G.VertexProgram.model c.args.program) c.in-Ok-run.ending)
+
+pub returns-in-Err-run-clause-over : goal.returns-in-Err-run-clause-over
+returns-in-Err-run-clause-over g c =
+    let over = subst (λ pr. RunIsOver g.G.Value.Fixed.is_in_range g.G.Sum.Fixed.is_in_range (g.G.VertexProgram.model pr) c.in-Err-run.fault) c.in-Ok.ensures.program c.in-Err-run.ensures.over in
+    subst (λ r. IfOk r (λ end. IfOver end (IsOver g.G.Value.Fixed.is_in_range g.G.Sum.Fixed.is_in_range (g.G.VertexProgram.model c.args.program)))) (sym c.run_stop.ensures)
+    (over_stop g.G.Value.Fixed.is_in_range g.G.Sum.Fixed.is_in_range (g.G.VertexProgram.model c.args.program) c.in-Err-run.fault over)
+
+pub returns-in-Err-run-clause-damaged : goal.returns-in-Err-run-clause-damaged
+returns-in-Err-run-clause-damaged g c =
+    subst (λ r. IfErr r (λ why. IfDamaged why IsWrongIn)) (sym c.run_stop.ensures) (damaged_stop _ _ c.in-Err-run.fault c.in-Err-run.ensures.damaged)

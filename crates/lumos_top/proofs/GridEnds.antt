@@ -1,0 +1,555 @@
+-- What a command over a grid comes to.
+use Rattle.std.proofs.Common.{◌≡◌, ◌==◌, ◌≤◌, ◌<◌, ◌*◌, inl, inr, ℕ, Bool, true, false, List, Option, Some, None, Result, Ok, Err, All, IsOk, IsSome, is_some, length, nat_lt, refl, sym, ap, subst, ◌∙◌, arith, if◌then◌else◌}
+use Rattle.std.proofs.lemmas.Bool.{eqb-true}
+use Rattle.std.specs.Option.{option_map}
+use Rattle.std.specs.Prelude.{IfErr, IfOk, IfSome}
+use Rattle.lumos_base.specs.Records.{IsEdge}
+use Rattle.lumos_base.specs.declared.records.Edge.{Edge}
+use Rattle.lumos_depot.specs.Files.{Same}
+use Rattle.lumos_depot.specs.Streams.{AppendsFront, Writes, after_told}
+use Rattle.lumos_depot.specs.declared.depot.FileKind.{FileKind}
+use Rattle.lumos_depot.specs.declared.depot.FileKind.TheVariants.{Meta, Primary, Secondary, Info, Values, Sums, Spool}
+use Rattle.lumos_depot.specs.declared.stream.Failed.{Failed}
+use Rattle.lumos_depot.proofs.Written.{front_none}
+use Rattle.edge_text.specs.Reading.{Listed, reading}
+use Rattle.edge_text.specs.declared.fault.TextLimits.{TextLimits}
+use Rattle.grid_format.specs.Checks.{GridFiles, counted, fields_of, files_sized, head_of, in_meta, sized}
+use Rattle.grid_format.specs.Grid.{HasGrid, IsRead, grid}
+use Rattle.grid_format.specs.Heads.{counts_of, meta_length}
+use Rattle.grid_format.specs.Outside.{Holds, OnlyReads}
+use Rattle.partition.specs.Parts.{Cut, chunk_of, chunk_size}
+use Rattle.grid_format.specs.declared.head.GridFault.{GridFault}
+use Rattle.grid_format.specs.declared.head.GridInfo.{GridInfo}
+use Rattle.grid_format.proofs.Accepted.{bind_ok, told_files}
+use Rattle.grid_build.specs.Built.{HasFiles, IsBuilt}
+use Rattle.grid_build.specs.Outside.{LeavesRuns as BuildLeaves, RoseBy}
+use Rattle.grid_build.proofs.Building.{AreLimits, list_within}
+use Rattle.lumos_law.specs.Program.{Program}
+use Rattle.lumos_law.specs.Sync.{ending}
+use Rattle.lumos_report.specs.declared.records.Ending.{Ending as EndingRecord}
+use Rattle.lumos_report.specs.declared.records.Why.{Why}
+use Rattle.lumos_report.specs.declared.records.Why.TheVariants.{Still, Limit}
+use Rattle.early_engine.specs.Engines.{EngineState, IsOpened, cut_in}
+use Rattle.early_engine.specs.Passes.{bytes_of, passes}
+use Rattle.early_engine.specs.Opens.{OpenShows}
+use Rattle.early_engine.specs.Report.{finished, report}
+use Rattle.early_engine.specs.Runs.{RunComes, Streams}
+use Rattle.early_engine.specs.Making.{IsOver}
+use Rattle.early_engine.specs.Turns.{RunIsOver, RunShows, ending_by_why}
+use Rattle.grid_format.specs.Tables.{BlockCounts}
+use Rattle.early_engine.specs.declared.options.OpenFault.{OpenFault}
+use Rattle.early_engine.specs.declared.options.OpenFault.TheVariants as open_fault
+use Rattle.early_engine.specs.declared.options.RunFault.{RunFault}
+use Rattle.early_engine.specs.declared.options.RunFault.TheVariants as run_fault
+use Rattle.early_engine.specs.declared.options.RunOptions.{RunOptions}
+use Rattle.lumos_top.specs.Outcome.{Did, Ran, answer, answer_to, did_build, did_replay, did_run, did_within, done_with, done_within, ending_line, ending_status, replay_text, replay_with, run_bytes}
+use Rattle.lumos_top.specs.Replays.{Streamed, streamed}
+use Rattle.lumos_top.specs.Words.{request}
+use Rattle.lumos_top.specs.Report.{grid_line}
+use Rattle.lumos_top.specs.Running.{BuiltAs, DoneTakes, Ends, HasDone, HasGridBuilt, IfDamaged, IfOver, IsGridOf, IsOverIn, IsWrongIn, Leaves, LeavesRuns, RunShown, RunTakes, Shown, Sides, TakesAs, WhereTold, done_status, ended_why, ending_of, ending_told, open_stop_of, run_stop_of}
+use Rattle.lumos_top.specs.declared.status.Completed.{Completed}
+use Rattle.lumos_top.specs.declared.status.Completed.TheVariants.{Run, Build}
+use Rattle.lumos_top.specs.declared.status.Ended.{Ended}
+use Rattle.lumos_top.specs.declared.status.Ended.TheVariants as ended
+use Rattle.lumos_top.specs.declared.status.Status.{Status}
+use Rattle.lumos_top.specs.declared.status.TooMany.{TooMany}
+use Rattle.lumos_top.specs.declared.status.TooMany.TheVariants.{Parts}
+use Rattle.lumos_top.specs.declared.words.ProgramName.{ProgramName}
+use Rattle.lumos_top.specs.declared.words.Request.{Request}
+use Rattle.lumos_top.specs.declared.words.UsageFault.{UsageFault}
+use Rattle.lumos_top.specs.declared.status.Stop.{Stop}
+use Rattle.lumos_top.specs.declared.status.Stop.TheVariants as stop
+
+-- the outside of a command
+abbrev pub sides_of : Option (List ℕ) → Option (List ℕ) → (FileKind → Option (List ℕ)) → (FileKind → Option (List ℕ)) → Option (List ℕ) → Option (List ℕ) → Sides
+sides_of left_old left_new was is old_out new_out = record { left_old = left_old; left_new = left_new; was = was; is = is; old_out = old_out; new_out = new_out }
+
+-- a grid that wasn't built, and nothing was written
+unbuilt_ends : (command : Listed → Did) (limits : TextLimits) (p : ℕ) (bytes : List ℕ) (left_old left_new : Option (List ℕ)) (was is : FileKind → Option (List ℕ)) (out : Option (List ℕ)) (why : Stop) →
+    BuiltAs limits p bytes (sides_of left_old left_new was is out out) (Err why) → Ends (done_with command (reading limits bytes)) (sides_of left_old left_new was is out out) (Err why)
+unbuilt_ends command limits p bytes left_old left_new was is out (stop.Text fault) h = record { gives = ap (done_with command) h.0; same = refl; files = h.1 }
+unbuilt_ends command limits p bytes left_old left_new was is out stop.Read h = record { same = refl; files = h }
+unbuilt_ends command limits p bytes left_old left_new was is out stop.Memory h = refl
+unbuilt_ends command limits p bytes left_old left_new was is out stop.Depot h = inl refl
+unbuilt_ends command limits p bytes left_old left_new was is out stop.Write h = absurd h
+unbuilt_ends command limits p bytes left_old left_new was is out (stop.Damaged file place found) h = absurd h
+unbuilt_ends command limits p bytes left_old left_new was is out (stop.Usage fault) h = absurd h
+unbuilt_ends command limits p bytes left_old left_new was is out (stop.TooMany many) h = absurd h
+unbuilt_ends command limits p bytes left_old left_new was is out (stop.BadSchedule line) h = absurd h
+unbuilt_ends command limits p bytes left_old left_new was is out (stop.ScheduleEnded line) h = absurd h
+unbuilt_ends command limits p bytes left_old left_new was is out (stop.TooManyEvents limit) h = absurd h
+unbuilt_ends command limits p bytes left_old left_new was is out (stop.Illegal event why) h = absurd h
+
+pub unbuilt_done : (command : Listed → Did) (limits : TextLimits) (p : ℕ) (left_old left_new : Option (List ℕ)) (was is : FileKind → Option (List ℕ)) (out : Option (List ℕ)) (why : Stop) →
+    HasGridBuilt limits p (sides_of left_old left_new was is out out) (Err why) → HasDone command limits (sides_of left_old left_new was is out out) (Err why)
+unbuilt_done command limits p left_old left_new was is out why h = record {
+  bytes = h.bytes;
+  told = h.told;
+  ends = unbuilt_ends command limits p h.bytes left_old left_new was is out why h.builds;
+  ended = λ ok. absurd (cc);
+}
+
+-- a build writes nothing
+built_no_write : (limits : TextLimits) (p : ℕ) (sides : Sides) (r : Result GridInfo Stop) → r ≡ Err stop.Write → HasGridBuilt limits p sides r → ⊥
+built_no_write limits p sides r is h =
+    let k : HasGridBuilt limits p sides (Err stop.Write) = subst (HasGridBuilt limits p sides) is h in k.builds
+
+pub no_write : (limits : TextLimits) (p : ℕ) (sides : Sides) (r : Result GridInfo Stop) (why : Stop) → r ≡ Err why → HasGridBuilt limits p sides r → ◌≡◌ {A = Result Completed Stop} (Err why) (Err stop.Write) → ⊥
+no_write limits p sides r why is h same =
+    let w : why ≡ stop.Write = cc in built_no_write limits p sides r (is ∙ ap (λ (s : Stop). Err s) w) h
+
+-- the line of the grid of a list
+line_is : (limits : TextLimits) (p : ℕ) (bytes : List ℕ) (was is : FileKind → Option (List ℕ)) (info : GridInfo) (b : IsBuilt limits p bytes was is info) → grid_line info.vertices info.edges info.parts ≡ (did_build p b.list).text
+line_is limits p bytes was is info b = ap (λ (i : GridInfo). grid_line i.vertices i.edges i.parts) b.head
+
+pub written_whole : (old new : Option (List ℕ)) (r : Result (Unit {0}) Failed) (text : List ℕ) → IsOk r → Writes old new r text → new ≡ after_told old text
+written_whole old new (Ok done) text ok wrote = wrote.whole
+written_whole old new (Err failed) text ok wrote = absurd (cc)
+
+-- a grid that was built, and its line was written
+pub built_done : (limits : TextLimits) (p : ℕ) (left_old left_new : Option (List ℕ)) (was is : FileKind → Option (List ℕ)) (out new : Option (List ℕ)) (info : GridInfo) →
+    HasGridBuilt limits p (sides_of left_old left_new was is out out) (Ok info) → new ≡ after_told out (grid_line info.vertices info.edges info.parts) → HasDone (did_build p) limits (sides_of left_old left_new was is out new) (Ok Build)
+built_done limits p left_old left_new was is out new info h wrote =
+    let b = h.builds.0 in record {
+      bytes = h.bytes;
+      told = h.told;
+      ends = record {
+        did = did_build p b.list;
+        gives = ap (done_with (did_build p)) b.is;
+        exact = record { status = refl; line = refl; written = wrote ∙ ap (after_told out) (line_is limits p h.bytes was is info b) };
+        files = b.files;
+      };
+      ended = λ ok. h.builds.1;
+    }
+
+pub built_cut : (limits : TextLimits) (p : ℕ) (left_old left_new : Option (List ℕ)) (was is : FileKind → Option (List ℕ)) (out new : Option (List ℕ)) (info : GridInfo) →
+    HasGridBuilt limits p (sides_of left_old left_new was is out out) (Ok info) → AppendsFront out new (grid_line info.vertices info.edges info.parts) → HasDone (did_build p) limits (sides_of left_old left_new was is out new) (Err stop.Write)
+built_cut limits p left_old left_new was is out new info h front =
+    let b = h.builds.0 in record {
+      bytes = h.bytes;
+      told = h.told;
+      ends = record {
+        did = did_build p b.list;
+        gives = ap (done_with (did_build p)) b.is;
+        front = subst (AppendsFront out new) (line_is limits p h.bytes was is info b) front;
+        files = b.files;
+      };
+      ended = λ ok. absurd (cc);
+    }
+
+-- what is told of a file that is the grid's
+file_is : {A : Type 0} (was is : Option A) (own other : A) → is ≡ option_map (λ _. own) was → is ≡ Some other → other ≡ own
+file_is None is own other h k = absurd (let e : None ≡ Some other = sym h ∙ k in cc)
+file_is (Some x) is own other h k = let e : Some own ≡ Some other = sym h ∙ k in cc
+
+file_told : {A : Type 0} (was is : Option A) (own : A) → is ≡ option_map (λ _. own) was → is_some is ≡ true → is ≡ Some own
+file_told None is own h some = absurd (let e : false ≡ true = sym (ap is_some h) ∙ some in cc)
+file_told (Some x) is own h some = h
+
+pub told_before : {A : Type 0} (was is : Option A) (own : A) → is ≡ option_map (λ _. own) was → is_some was ≡ true → is_some is ≡ true
+told_before None is own h some = absurd (cc)
+told_before (Some x) is own h some = ap is_some h
+
+files_are : (own files : GridFiles) (was is : FileKind → Option (List ℕ)) → HasFiles own was is → Holds is files → files ≡ own
+files_are own files was is h k =
+    let meta = file_is (was Meta) (is Meta) own.meta files.meta h.meta_file k.meta_file in
+    let primary = file_is (was Primary) (is Primary) own.primary files.primary h.primary_file k.primary_file in
+    let secondary = file_is (was Secondary) (is Secondary) own.secondary files.secondary h.secondary_file k.secondary_file in
+    let info = file_is (was Info) (is Info) own.info files.info h.info_file k.info_file in
+    ap (λ (x : List ℕ). record { meta = x; primary = files.primary; secondary = files.secondary; info = files.info }) meta
+    ∙ ap (λ (x : List ℕ). record { meta = own.meta; primary = x; secondary = files.secondary; info = files.info }) primary
+    ∙ ap (λ (x : List ℕ). record { meta = own.meta; primary = own.primary; secondary = x; info = files.info }) secondary
+    ∙ ap (λ (x : List ℕ). record { meta = own.meta; primary = own.primary; secondary = own.secondary; info = x }) info
+
+-- the files that were built are those of a grid with their head
+pub accepted : (limits : TextLimits) (p : ℕ) (bytes : List ℕ) (was is : FileKind → Option (List ℕ)) (info : GridInfo) (files : GridFiles) → ((edges : List Edge) (n p : ℕ) → HasGrid edges n p → IsRead edges n p) → IsBuilt limits p bytes was is info → Holds is files → head_of files ≡ Ok info
+accepted limits p bytes was is info files law b holds =
+    ap head_of (files_are (grid b.list.edges b.list.vertices p) files was is b.files holds)
+    ∙ (law b.list.edges b.list.vertices p b.within).head ∙ ap (λ (i : GridInfo). Ok i) (sym b.head)
+
+sized_is : (kind : FileKind) (want found : ℕ) (u : Unit {0}) → sized kind want found ≡ Ok u → found ≡ want
+sized_is kind want found u h = eqb-true found want (passes (found == want) h)
+  where
+    passes : (b : Bool) → (if b then Ok tt else Err (GridFault.BadLength kind want found)) ≡ Ok u → b ≡ true
+    passes true k = refl
+    passes false k = absurd (cc)
+
+-- the lengths of files whose head was accepted
+lengths : (files : GridFiles) (info : GridInfo) → head_of files ≡ Ok info → (length files.primary ≡ 12 * info.edges) × (length files.info ≡ 12 * info.vertices)
+lengths files info h =
+    let a = bind_ok (fields_of files.meta) _ info h in
+    let b = bind_ok (sized Meta (meta_length a.0.parts) (length files.meta)) _ info a.2 in
+    let d = bind_ok (in_meta (counted a.0.edges (counts_of a.0.parts files.meta))) _ info b.2 in
+    let e = bind_ok (files_sized a.0 files) _ info d.2 in
+    let f = bind_ok (sized Primary (12 * a.0.edges) (length files.primary)) _ e.0 e.1 in
+    let k = bind_ok (sized Secondary 0 (length files.secondary)) _ e.0 f.2 in
+    let same : a.0 ≡ info = let q : ◌≡◌ {A = Result GridInfo GridFault} (Ok a.0) (Ok info) = e.2 in cc in (
+      sized_is Primary (12 * a.0.edges) (length files.primary) f.0 f.1 ∙ ap (λ (i : GridInfo). 12 * i.edges) same,
+      sized_is Info (12 * a.0.vertices) (length files.info) e.0 k.2 ∙ ap (λ (i : GridInfo). 12 * i.vertices) same,
+    )
+
+some_is : {A : Type 0} (o : Option A) → is_some o ≡ true → (x : A) × (o ≡ Some x)
+some_is None h = absurd (cc)
+some_is (Some x) h = (x, refl)
+
+same_some : {A : Type 0} (o : Option A) (x y : A) → o ≡ Some x → o ≡ Some y → x ≡ y
+same_some o x y h k = let e : Some x ≡ Some y = sym h ∙ k in cc
+
+-- a depot that tells one of the files has them all, with the lengths that their head asks for
+told_lengths : (told : FileKind → Option (List ℕ)) (info : GridInfo) → ((j k : FileKind) → is_some (told j) ≡ is_some (told k)) → ((files : GridFiles) → Holds told files → head_of files ≡ Ok info) → (kind : FileKind) → is_some (told kind) ≡ true →
+    (files : GridFiles) × Holds told files × (length files.primary ≡ 12 * info.edges) × (length files.info ≡ 12 * info.vertices)
+told_lengths told info all accepts kind some =
+    let meta = some_is (told Meta) (all Meta kind ∙ some) in
+    let f = told_files told all meta.0 meta.1 in
+    let l = lengths f.0 info (accepts f.0 f.1) in
+    (f.0, f.1, l.0, l.1)
+
+pub info_long : (told now : FileKind → Option (List ℕ)) (info other : GridInfo) → ((j k : FileKind) → is_some (told j) ≡ is_some (told k)) → ((files : GridFiles) → Holds told files → head_of files ≡ Ok info) → Same told now → other ≡ info → IfSome (now Info) (λ file. 12 * other.vertices ≤ length file)
+info_long told now info other all accepts same is = go (now Info) refl
+  where
+    go : (o : Option (List ℕ)) → now Info ≡ o → IfSome o (λ file. 12 * other.vertices ≤ length file)
+    go None h = tt
+    go (Some file) h =
+        let before : told Info ≡ Some file = sym (same Info) ∙ h in
+        let l = told_lengths told info all accepts Info (ap is_some before) in
+        let long : length file ≡ 12 * info.vertices = ap length (same_some (told Info) file l.0.info before l.1.info_file) ∙ l.3 in
+        let n = ap (λ (i : GridInfo). i.vertices) is in
+        omega (arith, long, n)
+
+pub primary_long : (told now : FileKind → Option (List ℕ)) (info other : GridInfo) → ((j k : FileKind) → is_some (told j) ≡ is_some (told k)) → ((files : GridFiles) → Holds told files → head_of files ≡ Ok info) → Same told now → other ≡ info → IfSome (now Primary) (λ file. 12 * other.edges ≤ length file)
+primary_long told now info other all accepts same is = go (now Primary) refl
+  where
+    go : (o : Option (List ℕ)) → now Primary ≡ o → IfSome o (λ file. 12 * other.edges ≤ length file)
+    go None h = tt
+    go (Some file) h =
+        let before : told Primary ≡ Some file = sym (same Primary) ∙ h in
+        let l = told_lengths told info all accepts Primary (ap is_some before) in
+        let long : length file ≡ 12 * info.edges = ap length (same_some (told Primary) file l.0.primary before l.1.primary_file) ∙ l.2 in
+        let n = ap (λ (i : GridInfo). i.edges) is in
+        omega (arith, long, n)
+
+-- what an engine answers, as the command tells it
+abbrev pub told_run : Result EndingRecord RunFault → Result Ended Stop
+told_run (Ok end) = Ok (ending_of end)
+told_run (Err fault) = run_stop_of fault
+
+same_ending : (why : Why) (t : ℕ) → ending_told (ended_why why t) ≡ ending_by_why why t
+same_ending Still t = refl
+same_ending Limit t = refl
+
+run_leaves : (ran : Ran) (files : FileKind → Option (List ℕ)) (old new : Option (List ℕ)) (r : Result EndingRecord RunFault) → WhereTold files (RunComes ran.ending ran.text old new r) → Leaves ran files old new (told_run r)
+run_leaves ran files old new (Ok end) h = λ told. (same_ending end.why end.iterations ∙ sym (h told).0, (h told).1)
+run_leaves ran files old new (Err (run_fault.Range iteration vertex)) h = λ told. (sym (h told).0, (h told).1)
+run_leaves ran files old new (Err run_fault.Out) h = h
+run_leaves ran files old new (Err run_fault.Depot) h = h
+run_leaves ran files old new (Err (run_fault.Damaged kind place found)) h = h
+
+-- a grid's engine, where the files are told
+opened_at : {G V : Type 0} (list : Listed) (parts : ℕ) (info : GridInfo) (was is : FileKind → Option (List ℕ)) (engine : EngineState G V) → IsGridOf list parts info was → IsSome (was Meta) →
+    ((edges : List Edge) → All IsEdge edges → HasGrid edges info.vertices info.parts → Holds was (grid edges info.vertices info.parts) → IsOpened edges is engine) → IsOpened list.edges is engine
+opened_at list parts info was is engine g told opens =
+    opens list.edges g.numbers (subst (λ (i : GridInfo). HasGrid list.edges i.vertices i.parts) (sym g.head) g.limits) (subst (λ (i : GridInfo). Holds was (grid list.edges i.vertices i.parts)) (sym g.head) (g.holds told))
+
+-- what came of its run, by the list
+comes_at : {G V S : Type 0} (model : G → Program V S) (name : G → List ℕ) (program : G) (list : Listed) (parts : ℕ) (options : RunOptions) (info : GridInfo) (was : FileKind → Option (List ℕ)) (engine : EngineState G V) (old new : Option (List ℕ)) (r : Result EndingRecord RunFault) →
+    engine.program ≡ program → engine.options ≡ options → engine.info ≡ info → IsGridOf list parts info was →
+    RunComes (ending (model engine.program) list.edges engine.info.vertices engine.options.iterations) (report (model engine.program) (name engine.program) engine.options.show list.edges engine.info.vertices engine.info.parts engine.options.iterations) old new r →
+    RunComes (ending (model program) list.edges list.vertices options.iterations) (report (model program) (name program) options.show list.edges list.vertices parts options.iterations) old new r
+comes_at model name program list parts options info was engine old new r program_is options_is info_is g comes =
+    subst (λ (pr : _). RunComes (ending (model pr) list.edges list.vertices options.iterations) (report (model pr) (name pr) options.show list.edges list.vertices parts options.iterations) old new r) program_is
+    (subst (λ (i : GridInfo). RunComes (ending (model engine.program) list.edges i.vertices options.iterations) (report (model engine.program) (name engine.program) options.show list.edges i.vertices i.parts options.iterations) old new r) (info_is ∙ g.head)
+    (subst (λ (o : RunOptions). RunComes (ending (model engine.program) list.edges engine.info.vertices o.iterations) (report (model engine.program) (name engine.program) o.show list.edges engine.info.vertices engine.info.parts o.iterations) old new r) options_is comes))
+
+-- what a run comes to
+abbrev ran_with : {V S : Type 0} → Program V S → List ℕ → Listed → ℕ → RunOptions → Ran
+ran_with p name list parts options = record {
+  text = report p name options.show list.edges list.vertices parts options.iterations;
+  ending = ending p list.edges list.vertices options.iterations;
+  taken = run_bytes (ending p list.edges list.vertices options.iterations) list parts;
+}
+
+-- an engine that was opened on a grid, and what came of its run
+pub run_told : {G V S : Type 0} (model : G → Program V S) (name : G → List ℕ) (program : G) (list : Listed) (parts : ℕ) (options : RunOptions) (info : GridInfo) (was is : FileKind → Option (List ℕ)) (engine : EngineState G V) (old new : Option (List ℕ)) (r : Result EndingRecord RunFault) →
+    engine.program ≡ program → engine.options ≡ options → engine.info ≡ info → IsGridOf list parts info was →
+    ((edges : List Edge) → All IsEdge edges → HasGrid edges info.vertices info.parts → Holds was (grid edges info.vertices info.parts) → IsOpened edges is engine) →
+    ((edges : List Edge) → IsOpened edges is engine → RunComes (ending (model engine.program) edges engine.info.vertices engine.options.iterations) (report (model engine.program) (name engine.program) engine.options.show edges engine.info.vertices engine.info.parts engine.options.iterations) old new r) →
+    Leaves (ran_with (model program) (name program) list parts options) was old new (told_run r)
+run_told model name program list parts options info was is engine old new r program_is options_is info_is g opens runs =
+    run_leaves (ran_with (model program) (name program) list parts options) was old new r (λ told.
+    comes_at model name program list parts options info was engine old new r program_is options_is info_is g (runs list.edges (opened_at list parts info was is engine g told opens)))
+
+finished_told : (why : Why) (t : ℕ) → finished (ending_by_why why t) ≡ t
+finished_told Still t = refl
+finished_told Limit t = refl
+
+takes_why : (ran : Ran) (files : FileKind → Option (List ℕ)) (before after : ℕ) (why : Why) (t : ℕ) → WhereTold files (RoseBy before after ran.taken) → RunTakes ran files before after (Ok (ended_why why t))
+takes_why ran files before after Still t h = h
+takes_why ran files before after Limit t h = h
+
+pub takes_stop : (ran : Ran) (files : FileKind → Option (List ℕ)) (before after : ℕ) (fault : RunFault) → RunTakes ran files before after (run_stop_of fault)
+takes_stop ran files before after run_fault.Depot = tt
+takes_stop ran files before after run_fault.Out = tt
+takes_stop ran files before after (run_fault.Range iteration vertex) = tt
+takes_stop ran files before after (run_fault.Damaged kind place found) = tt
+
+-- what its run took of Primary
+pub run_took : {G V S : Type 0} (model : G → Program V S) (name : G → List ℕ) (program : G) (list : Listed) (parts : ℕ) (options : RunOptions) (info : GridInfo) (was is : FileKind → Option (List ℕ)) (engine : EngineState G V) (old new : Option (List ℕ)) (end : EndingRecord) (first before after : ℕ) →
+    engine.program ≡ program → engine.options ≡ options → engine.info ≡ info → IsGridOf list parts info was →
+    ((edges : List Edge) → All IsEdge edges → HasGrid edges info.vertices info.parts → Holds was (grid edges info.vertices info.parts) → IsOpened edges is engine) →
+    ((edges : List Edge) → IsOpened edges is engine → RunComes (ending (model engine.program) edges engine.info.vertices engine.options.iterations) (report (model engine.program) (name engine.program) engine.options.show edges engine.info.vertices engine.info.parts engine.options.iterations) old new (Ok end)) →
+    ((edges : List Edge) → IsOpened edges is engine → RoseBy before after (end.iterations * bytes_of edges (chunk_of (cut_in engine.info)) (passes engine.info.parts))) → before ≡ first →
+    RunTakes (ran_with (model program) (name program) list parts options) was first after (Ok (ending_of end))
+run_took model name program list parts options info was is engine old new end first before after program_is options_is info_is g opens runs takes same =
+    takes_why (ran_with (model program) (name program) list parts options) was first after end.why end.iterations (λ told.
+    let opened = opened_at list parts info was is engine g told opens in
+    let comes = comes_at model name program list parts options info was engine old new (Ok end) program_is options_is info_is g (runs list.edges opened) in
+    let count = ap finished comes.0 ∙ finished_told end.why end.iterations in
+    let size = bytes_of list.edges (chunk_size list.vertices parts) (passes parts) in
+    let took : RoseBy before after (end.iterations * size) = subst (λ (i : GridInfo). RoseBy before after (end.iterations * bytes_of list.edges (chunk_of (cut_in i)) (passes i.parts))) (info_is ∙ g.head) (takes list.edges opened) in
+    subst (λ (k : ℕ). RoseBy first after (k * size)) (sym count) (subst (λ (k : ℕ). RoseBy k after (end.iterations * size)) same took))
+
+-- an engine that wasn't opened
+pub unopened : (ran : Ran) (info : GridInfo) (files : FileKind → Option (List ℕ)) (out : Option (List ℕ)) (fault : OpenFault) → OpenShows info (files Meta) fault → Leaves ran files out out (Err (open_stop_of fault))
+unopened ran info files out (open_fault.BudgetTooSmall need given) h = refl
+unopened ran info files out (open_fault.Damaged file place found) h = λ told. let e : true ≡ false = sym told ∙ ap is_some h.2 in absurd (cc)
+unopened ran info files out open_fault.Depot h = λ told. front_none out out ran.text refl
+unopened ran info files out open_fault.NoMemory h = refl
+
+-- the grid that was built is that of the list
+pub built_grid : (limits : TextLimits) (p : ℕ) (bytes : List ℕ) (was is : FileKind → Option (List ℕ)) (info : GridInfo) → ((j k : FileKind) → is_some (is j) ≡ is_some (is k)) → AreLimits limits → 0 < p → p ≤ 256 → (b : IsBuilt limits p bytes was is info) → IsGridOf b.list p info is
+built_grid limits p bytes was is info all h some few b =
+    let own = grid b.list.edges b.list.vertices p in record {
+      numbers = (list_within limits p bytes b.list h some few b.is).1;
+      limits = b.within;
+      head = b.head;
+      holds = λ told. record {
+        meta_file = file_told (was Meta) (is Meta) own.meta b.files.meta_file told;
+        primary_file = file_told (was Primary) (is Primary) own.primary b.files.primary_file (all Primary Meta ∙ told);
+        secondary_file = file_told (was Secondary) (is Secondary) own.secondary b.files.secondary_file (all Secondary Meta ∙ told);
+        info_file = file_told (was Info) (is Info) own.info b.files.info_file (all Info Meta ∙ told);
+      };
+    }
+
+still_files : (own : GridFiles) (was is now : FileKind → Option (List ℕ)) → Same is now → HasFiles own was is → HasFiles own was now
+still_files own was is now same h = record {
+  meta_file = same Meta ∙ h.meta_file;
+  primary_file = same Primary ∙ h.primary_file;
+  secondary_file = same Secondary ∙ h.secondary_file;
+  info_file = same Info ∙ h.info_file;
+  spool_file = same Spool ∙ h.spool_file;
+}
+
+-- how a command ended that ran so
+abbrev pub completed_run : Result Ended Stop → Result Completed Stop
+completed_run (Ok end) = Ok (Run end)
+completed_run (Err why) = Err why
+
+ran_ends : (ran : Listed → Ran) (limits : TextLimits) (p : ℕ) (bytes : List ℕ) (left_old left_new : Option (List ℕ)) (was is now : FileKind → Option (List ℕ)) (out new : Option (List ℕ)) (info : GridInfo) (b : IsBuilt limits p bytes was is info) (r : Result Ended Stop) → Same is now → Leaves (ran b.list) is out new r →
+    Ends (done_with (did_run ran p) (reading limits bytes)) (sides_of left_old left_new was now out new) (completed_run r)
+ran_ends ran limits p bytes left_old left_new was is now out new info b (Ok end) same h = record {
+  did = did_run ran p b.list;
+  gives = ap (done_with (did_run ran p)) b.is;
+  exact = λ told.
+      let k = h (told_before (was Meta) (is Meta) _ b.files.meta_file told) in
+      record { status = ap ending_status k.0; line = ap ending_line k.0; written = k.1 };
+  files = still_files _ was is now same b.files;
+}
+ran_ends ran limits p bytes left_old left_new was is now out new info b (Err stop.Write) same h = record {
+  did = did_run ran p b.list;
+  gives = ap (done_with (did_run ran p)) b.is;
+  front = λ told. h (told_before (was Meta) (is Meta) _ b.files.meta_file told);
+  files = still_files _ was is now same b.files;
+}
+ran_ends ran limits p bytes left_old left_new was is now out new info b (Err stop.Depot) same h = inr (record {
+  did = did_run ran p b.list;
+  gives = ap (done_with (did_run ran p)) b.is;
+  front = λ told. h (told_before (was Meta) (is Meta) _ b.files.meta_file told);
+  files = still_files _ was is now same b.files;
+})
+ran_ends ran limits p bytes left_old left_new was is now out new info b (Err (stop.Damaged file place found)) same h = record {
+  did = did_run ran p b.list;
+  gives = ap (done_with (did_run ran p)) b.is;
+  streamed = refl;
+  untold = λ told. h (told_before (was Meta) (is Meta) _ b.files.meta_file told);
+  files = still_files _ was is now same b.files;
+}
+ran_ends ran limits p bytes left_old left_new was is now out new info b (Err stop.Memory) same h = h
+ran_ends ran limits p bytes left_old left_new was is now out new info b (Err stop.Read) same h = absurd h
+ran_ends ran limits p bytes left_old left_new was is now out new info b (Err (stop.Usage fault)) same h = absurd h
+ran_ends ran limits p bytes left_old left_new was is now out new info b (Err (stop.TooMany many)) same h = absurd h
+ran_ends ran limits p bytes left_old left_new was is now out new info b (Err (stop.Text fault)) same h = absurd h
+ran_ends ran limits p bytes left_old left_new was is now out new info b (Err (stop.BadSchedule line)) same h = absurd h
+ran_ends ran limits p bytes left_old left_new was is now out new info b (Err (stop.ScheduleEnded line)) same h = absurd h
+ran_ends ran limits p bytes left_old left_new was is now out new info b (Err (stop.TooManyEvents limit)) same h = absurd h
+ran_ends ran limits p bytes left_old left_new was is now out new info b (Err (stop.Illegal event why)) same h = absurd h
+
+pub ran_done : (ran : Listed → Ran) (limits : TextLimits) (p : ℕ) (left_old left_new : Option (List ℕ)) (was is now : FileKind → Option (List ℕ)) (out new : Option (List ℕ)) (info : GridInfo) (r : Result Ended Stop) →
+    (h : HasGridBuilt limits p (sides_of left_old left_new was is out out) (Ok info)) → Same is now → Leaves (ran h.builds.0.list) is out new r → HasDone (did_run ran p) limits (sides_of left_old left_new was now out new) (completed_run r)
+ran_done ran limits p left_old left_new was is now out new info r h same leaves = record {
+  bytes = h.bytes;
+  told = h.told;
+  ends = ran_ends ran limits p h.bytes left_old left_new was is now out new info h.builds.0 r same leaves;
+  ended = λ ok. h.builds.1;
+}
+
+-- a command that is done took so much, by the answer to what was read
+takes_by : (answer other : Result Did Stop) (files : FileKind → Option (List ℕ)) (before after : ℕ) (r : Result Completed Stop) → answer ≡ other → TakesAs answer files before after r → TakesAs other files before after r
+takes_by answer other files before after r is h = subst (λ a. TakesAs a files before after r) is h
+
+read_is : (limits : TextLimits) (p : ℕ) (sides : Sides) (info : GridInfo) (h : HasGridBuilt limits p sides (Ok info)) (bytes : List ℕ) → sides.left_old ≡ Some bytes → Ok h.builds.0.list ≡ reading limits bytes
+read_is limits p sides info h bytes told = sym h.builds.0.is ∙ ap (reading limits) (h.told bytes told)
+
+ended_takes : (ran : Listed → Ran) (p : ℕ) (list : Listed) (was is : FileKind → Option (List ℕ)) (before after : ℕ) (r : Result Ended Stop) → (IsSome (was Meta) → IsSome (is Meta)) → RunTakes (ran list) is before after r → TakesAs (Ok (did_run ran p list)) was before after (completed_run r)
+ended_takes ran p list was is before after (Ok (ended.Over iteration vertex)) still h = λ done. absurd (cc)
+ended_takes ran p list was is before after (Ok (ended.Still iteration)) still h = λ done told. h (still told)
+ended_takes ran p list was is before after (Ok (ended.Limit iteration)) still h = λ done told. h (still told)
+ended_takes ran p list was is before after (Err why) still h = tt
+
+pub ran_takes : (ran : Listed → Ran) (limits : TextLimits) (p : ℕ) (left_old left_new : Option (List ℕ)) (was is : FileKind → Option (List ℕ)) (out : Option (List ℕ)) (info : GridInfo) (first before after : ℕ) (r : Result Ended Stop) (bytes : List ℕ) →
+    (h : HasGridBuilt limits p (sides_of left_old left_new was is out out) (Ok info)) → left_old ≡ Some bytes → before ≡ first → RunTakes (ran h.builds.0.list) is before after r → TakesAs (done_with (did_run ran p) (reading limits bytes)) was first after (completed_run r)
+ran_takes ran limits p left_old left_new was is out info first before after r bytes h told same takes =
+    takes_by _ _ was first after (completed_run r) (ap (done_with (did_run ran p)) (read_is limits p (sides_of left_old left_new was is out out) info h bytes told))
+    (subst (λ (k : ℕ). TakesAs (Ok (did_run ran p h.builds.0.list)) was k after (completed_run r)) same
+    (ended_takes ran p h.builds.0.list was is before after r (told_before (was Meta) (is Meta) _ h.builds.0.files.meta_file) takes))
+
+none_taken : (before after : ℕ) → after ≡ before → RoseBy before after 0
+none_taken before after same below = omega (arith, same)
+
+pub built_takes : (limits : TextLimits) (p : ℕ) (left_old left_new : Option (List ℕ)) (was is : FileKind → Option (List ℕ)) (out : Option (List ℕ)) (info : GridInfo) (before after : ℕ) (bytes : List ℕ) →
+    HasGridBuilt limits p (sides_of left_old left_new was is out out) (Ok info) → left_old ≡ Some bytes → after ≡ before → TakesAs (done_with (did_build p) (reading limits bytes)) was before after (Ok Build)
+built_takes limits p left_old left_new was is out info before after bytes h told same =
+    takes_by _ _ was before after (Ok Build) (ap (done_with (did_build p)) (read_is limits p (sides_of left_old left_new was is out out) info h bytes told)) (λ done. none_taken before after same)
+
+pub within_takes : (command : Listed → Did) (r : Result TextLimits TooMany) (limits : TextLimits) (bytes : List ℕ) (files : FileKind → Option (List ℕ)) (before after : ℕ) (result : Result Completed Stop) → r ≡ Ok limits → TakesAs (done_with command (reading limits bytes)) files before after result → TakesAs (done_within command r bytes) files before after result
+within_takes command r limits bytes files before after result is h = subst (λ l. TakesAs (done_within command l bytes) files before after result) (sym is) h
+
+pub asked_takes : (words : List (List ℕ)) (r : Result Request UsageFault) (bytes : List ℕ) (files : FileKind → Option (List ℕ)) (before after : ℕ) (result : Result Completed Stop) → request words ≡ r → TakesAs (answer_to r bytes) files before after result → TakesAs (answer words bytes) files before after result
+asked_takes words r bytes files before after result is h = subst (λ q. TakesAs (answer_to q bytes) files before after result) (sym is) h
+
+-- a replay takes nothing
+text_takes : (r : Result (List ℕ) Stop) (files : FileKind → Option (List ℕ)) (t : ℕ) (s : Status) → DoneTakes (did_replay r) files t t s
+text_takes (Ok text) files t s = λ done. none_taken t t refl
+text_takes (Err why) files t s = tt
+
+stream_takes : (program : ProgramName) (parts : ℕ) (r : Result Streamed Stop) (files : FileKind → Option (List ℕ)) (t : ℕ) (s : Status) → DoneTakes (replay_with program parts r) files t t s
+stream_takes program parts (Ok stream) files t s = text_takes (replay_text program parts stream) files t s
+stream_takes program parts (Err why) files t s = tt
+
+few_takes : (many : Bool) (program : ProgramName) (parts : ℕ) (why : Stop) (r : Result Streamed Stop) (files : FileKind → Option (List ℕ)) (t : ℕ) (s : Status) → DoneTakes (if many then Err why else replay_with program parts r) files t t s
+few_takes true program parts why r files t s = tt
+few_takes false program parts why r files t s = stream_takes program parts r files t s
+
+pub replay_takes : (program : ProgramName) (parts : ℕ) (bytes : List ℕ) (files : FileKind → Option (List ℕ)) (t : ℕ) (r : Result Completed Stop) → TakesAs (did_within program parts bytes) files t t r
+replay_takes program parts bytes files t (Ok completed) = few_takes (nat_lt 64 parts) program parts (stop.TooMany (Parts parts 64)) (streamed 1099511627776 bytes) files t (done_status completed)
+replay_takes program parts bytes files t (Err why) = tt
+
+-- what every step leaves
+module _ {D : Type 0} (h : D → FileKind → Option (List ℕ)) (t s : D → FileKind → ℕ) where
+  pub leaves_then : (a b c : D) → LeavesRuns h t s a b → LeavesRuns h t s b c → LeavesRuns h t s a c
+  leaves_then a b c first second = record {
+    values = second.values ∙ first.values;
+    sums = second.sums ∙ first.sums;
+    values_taken = second.values_taken ∙ first.values_taken;
+    sums_taken = second.sums_taken ∙ first.sums_taken;
+    secondary_taken = second.secondary_taken ∙ first.secondary_taken;
+    values_stored = second.values_stored ∙ first.values_stored;
+    sums_stored = second.sums_stored ∙ first.sums_stored;
+    secondary_stored = second.secondary_stored ∙ first.secondary_stored;
+  }
+
+  pub same_leaves : (a b : D) → Same (h a) (h b) → Same (t a) (t b) → Same (s a) (s b) → LeavesRuns h t s a b
+  same_leaves a b contents taken stored = record {
+    values = contents Values;
+    sums = contents Sums;
+    values_taken = taken Values;
+    sums_taken = taken Sums;
+    secondary_taken = taken Secondary;
+    values_stored = stored Values;
+    sums_stored = stored Sums;
+    secondary_stored = stored Secondary;
+  }
+
+module _ {D : Type 0} (h : D → FileKind → Option (List ℕ)) (t s : D → FileKind → ℕ) (f : D → ℕ) (a : D → Option (List ℕ)) where
+  pub build_leaves : (old new : D) → BuildLeaves h t s f a old new → LeavesRuns h t s old new
+  build_leaves old new b = record {
+    values = b.values;
+    sums = b.sums;
+    values_taken = b.taken Values (λ e. cc);
+    sums_taken = b.taken Sums (λ e. cc);
+    secondary_taken = b.taken Secondary (λ e. cc);
+    values_stored = b.values_stored;
+    sums_stored = b.sums_stored;
+    secondary_stored = b.secondary_stored;
+  }
+
+  pub open_leaves : (old new : D) → OnlyReads h t s f a old new → LeavesRuns h t s old new
+  open_leaves old new b = record {
+    values = b.contents Values;
+    sums = b.contents Sums;
+    values_taken = b.taken Values (λ e. cc);
+    sums_taken = b.taken Sums (λ e. cc);
+    secondary_taken = b.taken Secondary (λ e. cc);
+    values_stored = b.stored Values;
+    sums_stored = b.stored Sums;
+    secondary_stored = b.stored Secondary;
+  }
+
+  pub run_leaves_files : (old new : D) → Streams h t s f a old new → LeavesRuns h t s old new
+  run_leaves_files old new b = record {
+    values = b.contents Values;
+    sums = b.contents Sums;
+    values_taken = b.taken Values (λ e. cc) (λ e. cc);
+    sums_taken = b.taken Sums (λ e. cc) (λ e. cc);
+    secondary_taken = b.taken Secondary (λ e. cc) (λ e. cc);
+    values_stored = b.stored Values;
+    sums_stored = b.stored Sums;
+    secondary_stored = b.stored Secondary;
+  }
+
+-- what an end shows
+pub over_end : {V S : Type 0} (ValueIn : V → Type 0) (SumIn : S → Type 0) (p : Program V S) (end : EndingRecord) → IfOver (ending_of end) (IsOver ValueIn SumIn p)
+over_end ValueIn SumIn p end = by_why end.why end.iterations
+  where
+    by_why : (why : Why) (t : ℕ) → IfOver (ended_why why t) (IsOver ValueIn SumIn p)
+    by_why Still t = tt
+    by_why Limit t = tt
+
+pub over_stop : {V S : Type 0} (ValueIn : V → Type 0) (SumIn : S → Type 0) (p : Program V S) (fault : RunFault) → RunIsOver ValueIn SumIn p fault → IfOk (run_stop_of fault) (λ end. IfOver end (IsOver ValueIn SumIn p))
+over_stop ValueIn SumIn p run_fault.Depot h = tt
+over_stop ValueIn SumIn p run_fault.Out h = tt
+over_stop ValueIn SumIn p (run_fault.Range iteration vertex) h = h
+over_stop ValueIn SumIn p (run_fault.Damaged kind place found) h = tt
+
+pub damaged_stop : (cut : Cut) (table : BlockCounts) (fault : RunFault) → RunShows cut table fault → IfErr (run_stop_of fault) (λ why. IfDamaged why IsWrongIn)
+damaged_stop cut table run_fault.Depot h = tt
+damaged_stop cut table run_fault.Out h = tt
+damaged_stop cut table (run_fault.Range iteration vertex) h = tt
+damaged_stop cut table (run_fault.Damaged kind place found) h = inr (h.0, (cut, table, h.1))
+
+pub damaged_open : (info : GridInfo) (told : Option (List ℕ)) (fault : OpenFault) → OpenShows info told fault → IfDamaged (open_stop_of fault) IsWrongIn
+damaged_open info told (open_fault.BudgetTooSmall need given) h = tt
+damaged_open info told (open_fault.Damaged kind place found) h = inl (h.0, (info.edges, h.1))
+damaged_open info told open_fault.Depot h = tt
+damaged_open info told open_fault.NoMemory h = tt
+
+-- a program by its name
+pub shown_by_name : (name : ProgramName) (r : Result Ended Stop) → IfOk r (λ end. IfOver end (IsOverIn name)) → IfErr r (λ why. IfDamaged why IsWrongIn) → RunShown name r
+shown_by_name name (Ok end) over damaged = over
+shown_by_name name (Err why) over damaged = damaged
+
+pub unbuilt_shown : (limits : TextLimits) (p : ℕ) (sides : Sides) (why : Stop) → HasGridBuilt limits p sides (Err why) → IfDamaged why IsWrongIn
+unbuilt_shown limits p sides (stop.Damaged kind place found) h = absurd h.builds
+unbuilt_shown limits p sides (stop.Text fault) h = tt
+unbuilt_shown limits p sides stop.Read h = tt
+unbuilt_shown limits p sides stop.Memory h = tt
+unbuilt_shown limits p sides stop.Depot h = tt
+unbuilt_shown limits p sides stop.Write h = tt
+unbuilt_shown limits p sides (stop.Usage fault) h = tt
+unbuilt_shown limits p sides (stop.TooMany many) h = tt
+unbuilt_shown limits p sides (stop.BadSchedule line) h = tt
+unbuilt_shown limits p sides (stop.ScheduleEnded line) h = tt
+unbuilt_shown limits p sides (stop.TooManyEvents limit) h = tt
+unbuilt_shown limits p sides (stop.Illegal event why) h = tt
+
+pub asked_shown : (words : List (List ℕ)) (r : Result Request UsageFault) (result : Result Completed Stop) → request words ≡ r → Shown r result → Shown (request words) result
+asked_shown words r result is h = subst (λ q. Shown q result) (sym is) h

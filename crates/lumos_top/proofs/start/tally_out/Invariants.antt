@@ -1,6 +1,0 @@
-use Rattle.std.proofs.Common.{take}
-use Rattle.lumos_law.specs.Sync.{out_info, IsChunk}
-use Rattle.lumos_top.proofs.start.tally_out.Given as goal
-
-abbrev pub invariant-loop-edge : goal.invariant-loop-edge
-invariant-loop-edge l = IsChunk (out_info (take l.edge-index l.edges)) 0 l.infos

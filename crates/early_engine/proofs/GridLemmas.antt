@@ -1,5 +1,5 @@
 -- The grid that a depot holds, and its table.
-use Rattle.std.proofs.Common.{◌≡◌, ◌<◌, ℕ, List, length, take, Option, Some, None, Result, Err, sym, ap, ◌∙◌, subst, arith}
+use Rattle.std.proofs.Common.{◌≡◌, ◌<◌, ◌≤◌, ◌+◌, ◌*◌, ℕ, List, length, take, Option, Some, None, Result, Err, sym, ap, ◌∙◌, subst, arith}
 use Rattle.std.specs.Prelude.{All, IfSome}
 use Rattle.std.proofs.lemmas.List.{take_all}
 use Rattle.lumos_base.specs.declared.records.Edge.{Edge}
@@ -9,17 +9,26 @@ use Rattle.lumos_depot.specs.declared.depot.FileKind.TheVariants.{Meta, Primary,
 use Rattle.partition.specs.Blocks.{block}
 use Rattle.partition.specs.Parts.{Cut, chunk_of, part_range, IsInPart}
 use Rattle.partition.specs.declared.records.VertexRange.{VertexRange}
-use Rattle.grid_format.specs.Grid.{grid}
-use Rattle.grid_format.specs.Tables.{BlockCounts, count_at, primary_place_of}
+use Rattle.grid_format.specs.Grid.{HasGrid, grid, grid_table}
+use Rattle.grid_format.specs.Tables.{BlockCounts, count_at}
 use Rattle.grid_format.proofs.GridBlocks.{count_is}
+use Rattle.grid_format.proofs.TableLemmas.{low_few, low_inside, primary_inside}
 use Rattle.value_files.specs.declared.fault.FileFault.{FileFault}
 use Rattle.value_files.specs.declared.fault.FileFault.TheVariants.{Depot, Damaged}
-use Rattle.column_stream.specs.Blocks.{block_cursor}
-use Rattle.column_stream.specs.Cursors.{CursorState, edges_left, fault_left}
-use Rattle.column_stream.specs.Records.{FaultIs, Fits}
+use Rattle.column_stream.specs.Cursors.{CursorState, IsInside, edges_left, fault_left}
+use Rattle.column_stream.specs.Records.{FaultIs, Fits, IsDamage}
 use Rattle.column_stream.specs.declared.records.Ends.{Ends}
-use Rattle.column_stream.proofs.BlockLemmas.{block_streamed}
-use Rattle.early_engine.specs.Grids.{IsIntact, IsOnGrid, ends_of}
+use Rattle.column_stream.proofs.BlockLemmas.{block_streamed, low_streamed}
+use Rattle.column_stream.specs.Blocks.{IsStreamed}
+use Rattle.early_engine.proofs.Moving.{told_more, told_same}
+use Rattle.early_engine.specs.Grids.{HasBlocks, IsIntact, IsLaid, IsOnGrid, ShowsStray, bytes_in, ends_of, place_in}
+use Rattle.early_engine.specs.Passes.{file_of}
+use Rattle.early_engine.specs.Steps.{GoesThrough}
+use Rattle.lumos_base.specs.Records.{IsEdge}
+use Rattle.lumos_report.specs.declared.records.Kind.{Kind}
+use Rattle.lumos_report.specs.declared.records.Kind.TheVariants.{Full, Fed}
+use Rattle.grid_format.specs.Checks.{GridFiles}
+use Rattle.grid_format.specs.Outside.{Holds}
 
 -- the same grid in the same files
 pub on_grid_same : (edges : List Edge) (cut : Cut) (table : BlockCounts) (old new : FileKind → Option (List ℕ)) → Same old new → IsOnGrid edges cut table old → IsOnGrid edges cut table new
@@ -40,16 +49,16 @@ pub size_is : (edges : List Edge) (cut : Cut) (table : BlockCounts) (told : File
 size_is edges cut table told i j row column grid =
     ap (λ (t : BlockCounts). count_at t i j) grid.counts ∙ count_is edges (chunk_of cut) cut.parts i j row column
 
-abbrev cursor_of : ℕ → ℕ → VertexRange → VertexRange → CursorState
-cursor_of place count sources targets = record { file = Primary; place = place; left = count; ends = record { sources = sources; targets = targets } }
+abbrev cursor_of : FileKind → ℕ → ℕ → VertexRange → VertexRange → CursorState
+cursor_of file place count sources targets = record { file = file; place = place; left = count; ends = record { sources = sources; targets = targets } }
 
--- the cursor at the beginning of a block
-abbrev pub cursor_at : Cut → BlockCounts → ℕ → ℕ → CursorState
-cursor_at cut table i j = record { file = Primary; place = primary_place_of table i j; left = count_at table i j; ends = ends_of cut i j }
+-- the cursor at the beginning of a block in the file from which iterations of a kind read
+abbrev pub cursor_at : Kind → Cut → BlockCounts → ℕ → ℕ → CursorState
+cursor_at kind cut table i j = record { file = file_of kind; place = place_in kind table i j; left = count_at table i j; ends = ends_of cut i j }
 
-pub begins_at : (cut : Cut) (table : BlockCounts) (i j : ℕ) (cursor : CursorState) (place count : ℕ) (sources targets : VertexRange) → cursor ≡ record { file = Primary; place = place; left = count; ends = record { sources = sources; targets = targets } } →
-    place ≡ primary_place_of table i j → count ≡ count_at table i j → sources ≡ part_range cut.vertices (chunk_of cut) i → targets ≡ part_range cut.vertices (chunk_of cut) j → cursor ≡ cursor_at cut table i j
-begins_at cut table i j cursor place count sources targets is at counted from into = is ∙ (λ t. cursor_of (at t) (counted t) (from t) (into t))
+pub begins_at : (kind : Kind) (cut : Cut) (table : BlockCounts) (i j : ℕ) (cursor : CursorState) (file : FileKind) (place count : ℕ) (sources targets : VertexRange) → cursor ≡ record { file = file; place = place; left = count; ends = record { sources = sources; targets = targets } } →
+    file ≡ file_of kind → place ≡ place_in kind table i j → count ≡ count_at table i j → sources ≡ part_range cut.vertices (chunk_of cut) i → targets ≡ part_range cut.vertices (chunk_of cut) j → cursor ≡ cursor_at kind cut table i j
+begins_at kind cut table i j cursor file place count sources targets is read at counted from into = is ∙ (λ t. cursor_of (read t) (at t) (counted t) (from t) (into t))
 
 -- edges whose ends lie in the ranges of a block's cursor lie in its parts
 pub fits_part : (cut : Cut) (i j : ℕ) (ends : Ends) (n : ℕ) (out : List Edge) → ends ≡ ends_of cut i j → length out ≡ n → All (Fits ends) (take n out)
@@ -63,31 +72,74 @@ pub told_some : (told : Option (List ℕ)) (P : List ℕ → Type 0) (file : Lis
 told_some None P file is had = absurd (cc)
 told_some (Some found) P file is had = let same : found ≡ file = cc in subst P same had
 
-module _ (edges : List Edge) (cut : Cut) (table : BlockCounts) (told : FileKind → Option (List ℕ)) (i j : ℕ) (row : i < cut.parts) (column : j < cut.parts) (is : IsOnGrid edges cut table told) (cursor : CursorState) (begins : cursor ≡ cursor_at cut table i j) where
-  same_cursor : block_cursor edges cut.vertices cut.parts i j ≡ cursor
-  same_cursor = ap (λ (t : BlockCounts). cursor_at cut t i j) (sym is.counts) ∙ sym begins
+-- that file of a grid
+abbrev file_in : Kind → GridFiles → List ℕ
+file_in Full files = files.primary
+file_in Fed files = files.secondary
 
-  abbrev primary : List ℕ
-  primary = (grid edges cut.vertices cut.parts).primary
+streams : (kind : Kind) (edges : List Edge) (cut : Cut) (i j : ℕ) → HasGrid edges cut.vertices cut.parts → All IsEdge edges → i < cut.parts → j < cut.parts → GoesThrough kind i j
+    → IsStreamed (cursor_at kind cut (grid_table edges cut.vertices cut.parts) i j) (file_in kind (grid edges cut.vertices cut.parts)) (block edges (chunk_of cut) i j)
+streams Full edges cut i j limits numbers row column low = block_streamed edges cut.vertices cut.parts i j limits numbers row column
+streams Fed edges cut i j limits numbers row column low = low_streamed edges cut.vertices cut.parts i j limits numbers row low
 
-  primary_told : told cursor.file ≡ Some primary
-  primary_told = ap (λ (k : CursorState). told k.file) begins ∙ is.files.primary_file
+told_in : (kind : Kind) (told : FileKind → Option (List ℕ)) (files : GridFiles) → Holds told files → told (file_of kind) ≡ Some (file_in kind files)
+told_in Full told files holds = holds.primary_file
+told_in Fed told files holds = holds.secondary_file
+
+module _ (kind : Kind) (edges : List Edge) (cut : Cut) (table : BlockCounts) (told : FileKind → Option (List ℕ)) (i j : ℕ) (row : i < cut.parts) (column : j < cut.parts) (low : GoesThrough kind i j) (is : IsOnGrid edges cut table told) (cursor : CursorState) (begins : cursor ≡ cursor_at kind cut table i j) where
+  abbrev bytes_are : List ℕ
+  bytes_are = file_in kind (grid edges cut.vertices cut.parts)
+
+  same_cursor : cursor_at kind cut (grid_table edges cut.vertices cut.parts) i j ≡ cursor
+  same_cursor = ap (λ (t : BlockCounts). cursor_at kind cut t i j) (sym is.counts) ∙ sym begins
+
+  given : IsStreamed cursor bytes_are (block edges (chunk_of cut) i j)
+  given = subst (λ (k : CursorState). IsStreamed k bytes_are (block edges (chunk_of cut) i j)) same_cursor (streams kind edges cut i j is.limits is.numbers row column low)
+
+  file_told : told cursor.file ≡ Some bytes_are
+  file_told = ap (λ (k : CursorState). told k.file) begins ∙ told_in kind told (grid edges cut.vertices cut.parts) is.files
 
   -- it gives the block's edges
   pub edges_streamed : (n : ℕ) (out : List Edge) → length out ≡ n → IfSome (told cursor.file) (λ bytes. take n out ≡ edges_left cursor bytes) → out ≡ block edges (chunk_of cut) i j
-  edges_streamed n out long given =
-      sym (take_all n out (omega arith))
-      ∙ told_some (told cursor.file) (λ bytes. take n out ≡ edges_left cursor bytes) primary primary_told given
-      ∙ ap (λ (k : CursorState). edges_left k primary) (sym same_cursor)
-      ∙ (block_streamed edges cut.vertices cut.parts i j is.limits is.numbers row column).is_block
+  edges_streamed n out long had =
+      sym (take_all n out (omega arith)) ∙ told_some (told cursor.file) (λ bytes. take n out ≡ edges_left cursor bytes) bytes_are file_told had ∙ given.is_block
 
   -- and finds no word outside its range
   pub never_damaged : {T : Type 0} (fault : FileFault) (result : Result T FileFault) → result ≡ Err fault → IfSome (told cursor.file) (λ bytes. FaultIs result (fault_left cursor bytes)) → IsIntact fault
-  never_damaged {T} fault result failed given =
-      let sound = ap (λ (k : CursorState). fault_left k primary) (sym same_cursor) ∙ (block_streamed edges cut.vertices cut.parts i j is.limits is.numbers row column).sound in
-      let answer = told_some (told cursor.file) (λ bytes. FaultIs result (fault_left cursor bytes)) primary primary_told given in
-      by_fault fault (subst (λ (r : Result T FileFault). FaultIs r (fault_left cursor primary)) failed answer) sound
+  never_damaged {T} fault result failed had =
+      let answer = told_some (told cursor.file) (λ bytes. FaultIs result (fault_left cursor bytes)) bytes_are file_told had in
+      by_fault fault (subst (λ (r : Result T FileFault). FaultIs r (fault_left cursor bytes_are)) failed answer) given.sound
     where
-      by_fault : (f : FileFault) → FaultIs {T = T} (Err f) (fault_left cursor primary) → fault_left cursor primary ≡ None → IsIntact f
+      by_fault : (f : FileFault) → FaultIs {T = T} (Err f) (fault_left cursor bytes_are) → fault_left cursor bytes_are ≡ None → IsIntact f
       by_fault Depot h none = tt
       by_fault (Damaged file place found) h none = absurd (let e : Some (Damaged file place found) ≡ None = sym h ∙ none in cc)
+
+-- a block's records lie inside that file, and it isn't long
+pub block_inside : (kind : Kind) (cut : Cut) (table : BlockCounts) (room i j : ℕ) → IsLaid cut table room → i < cut.parts → j < cut.parts → GoesThrough kind i j → place_in kind table i j + 12 * count_at table i j ≤ bytes_in kind table
+block_inside Full cut table room i j laid row column low = primary_inside table i j
+block_inside Fed cut table room i j laid row column low = low_inside table i j low (omega (arith, laid.parts))
+
+pub bytes_few : (kind : Kind) (cut : Cut) (table : BlockCounts) (room : ℕ) → IsLaid cut table room → bytes_in kind table ≤ 25769803776
+bytes_few Full cut table room laid = omega (arith, laid.few)
+bytes_few Fed cut table room laid = omega (arith, laid.few, low_few table)
+
+-- a cursor at a block stays inside that file
+pub cursor_inside : (kind : Kind) (cut : Cut) (table : BlockCounts) (room i j : ℕ) (told : FileKind → Option (List ℕ)) (cursor : CursorState) → IsLaid cut table room → i < cut.parts → j < cut.parts → GoesThrough kind i j
+    → HasBlocks table told → cursor ≡ cursor_at kind cut table i j → IfSome (told cursor.file) (IsInside cursor)
+cursor_inside kind cut table room i j told cursor laid row column low has begins =
+    let fits = block_inside kind cut table room i j laid row column low in
+    subst (λ (k : CursorState). IfSome (told k.file) (IsInside k)) (sym begins)
+    (told_more (told (file_of kind)) (λ file. bytes_in kind table ≤ length file) (IsInside (cursor_at kind cut table i j)) (λ file long. omega (arith, fits, long)) (has kind))
+
+-- the same blocks in the same files
+pub blocks_same : (table : BlockCounts) (old new : FileKind → Option (List ℕ)) → Same old new → HasBlocks table old → HasBlocks table new
+blocks_same table old new same has kind = told_same (old (file_of kind)) (new (file_of kind)) (λ file. bytes_in kind table ≤ length file) (same (file_of kind)) (has kind)
+
+-- a damaged record of a block is one of some block
+pub shows_stray : (kind : Kind) (cut : Cut) (table : BlockCounts) (i j : ℕ) (cursor : CursorState) (fault : FileFault) → cursor ≡ cursor_at kind cut table i j → i < cut.parts → j < cut.parts
+    → IsDamage cursor.file cursor.ends cursor.place cursor.left fault → ShowsStray cut table fault
+shows_stray kind cut table i j cursor Depot begins row column damage = tt
+shows_stray kind cut table i j cursor (Damaged file place found) begins row column damage =
+    let here : IsDamage (file_of kind) (ends_of cut i j) (place_in kind table i j) (count_at table i j) (Damaged file place found) =
+    subst (λ (k : CursorState). IsDamage k.file k.ends k.place k.left (Damaged file place found)) begins damage in
+    record { kind = kind; row = i; column = j; file_is = here.0; row_in = row; column_in = column; stray = here.1 }

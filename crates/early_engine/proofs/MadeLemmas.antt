@@ -1,18 +1,17 @@
 -- An iteration that is made up to a column, and with the next one.
-use Rattle.std.proofs.Common.{◌≡◌, ℕ, suc, ◌+◌, ◌-◌, ◌<◌, ◌≤◌, ◌^◌, List, [], length, take, Option, Some, None, find, option_map, refl, sym, ap, ◌∙◌, subst, arith}
+use Rattle.std.proofs.Common.{◌≡◌, ℕ, suc, ◌+◌, ◌-◌, ◌<◌, ◌≤◌, ◌^◌, Bool, true, List, length, take, Option, Some, None, Result, Ok, Err, find, option_map, refl, sym, ap, ◌∙◌, subst, arith}
 use Rattle.std.specs.List.{range_with_len}
 use Rattle.std.specs.Option.{option_or}
-use Rattle.std.proofs.lemmas.List.{take_all}
+use Rattle.std.proofs.lemmas.List.{length-take, take_all}
 use Rattle.std.proofs.lemmas.List.Elements.{recursion_from_All}
 use Rattle.lumos_base.specs.Records.{vertex_of}
 use Rattle.lumos_base.specs.declared.records.Edge.{Edge}
 use Rattle.lumos_base.specs.declared.records.Vertex.{Vertex}
 use Rattle.lumos_depot.specs.declared.depot.FileKind.{FileKind}
 use Rattle.lumos_law.specs.Program.{Program, Lawful}
-use Rattle.lumos_law.specs.Sync.{fed_sum, sum_at, values, IsChunk}
-use Rattle.lumos_law.proofs.ChunkLemmas.{chunk_same}
+use Rattle.lumos_law.specs.Sync.{moved_count, sum_at, values, IsChunk}
+use Rattle.lumos_law.proofs.ChunkLemmas.{chunk_append, chunk_same}
 use Rattle.lumos_law.proofs.ValueLemmas.{values_in}
-use Rattle.partition.specs.Blocks.{column}
 use Rattle.partition.specs.Parts.{Cut, chunk_of, first_vertex, part_length, IsInPart}
 use Rattle.partition.proofs.RangeLemmas.{cover_once, parts_suffice}
 use Rattle.flight_core.specs.Finish.{finish_of, joined_end}
@@ -22,28 +21,26 @@ use Rattle.flight_core.proofs.FinishLemmas.{finish_join}
 use Rattle.grid_format.specs.Tables.{BlockCounts}
 use Rattle.io_account.specs.declared.Counts.{Counts}
 use Rattle.early_engine.specs.Grids.{IsOnGrid}
-use Rattle.early_engine.specs.Making.{IsMade}
-use Rattle.early_engine.specs.Passes.{passes, places_below, tally_of}
+use Rattle.std.specs.Prelude.{MatchResult}
+use Rattle.early_engine.specs.Making.{IsMade, IsUnmade}
+use Rattle.early_engine.specs.Passes.{feeds_ahead, kind_of, passes, places_below, tally_of}
+use Rattle.early_engine.specs.declared.iteration.Stop.{Stop}
+use Rattle.early_engine.specs.declared.options.Mode.{Mode}
+use Rattle.early_engine.specs.Early.{early_sum}
+use Rattle.early_engine.specs.Steps.{IsFedTo, IsMadeBelow, IsPassed, came_of}
+use Rattle.lumos_report.specs.declared.records.Kind.{Kind}
+use Rattle.std.proofs.lemmas.Slice.{take-put_mid}
+use borrow.Rule.Slice.PartMut.{put_mid}
 
 module _ {V S : Type 0} (p : Program V S) where
-  -- what came of the first n vertices in iteration t + 1
-  abbrev pub came_of : List Edge → ℕ → ℕ → Finish
-  came_of edges t n = finish_of p (values p edges t) (sum_at p edges (values p edges t)) 0 n
-
-  -- Iteration t + 1 is made of the columns below j.
-  pub record IsMadeBelow (edges : List Edge) (cut : Cut) (j t : ℕ) (after : List V) (counts : Counts) : Type 0 where
-    pub chunk : IsChunk (values p edges (suc t)) 0 (take (first_vertex cut.vertices (chunk_of cut) j) after)
-    pub counted : counts ≡ tally_of edges (chunk_of cut) (places_below cut.parts j) (came_of edges t (first_vertex cut.vertices (chunk_of cut) j)).moved
-    pub none : (came_of edges t (first_vertex cut.vertices (chunk_of cut) j)).over ≡ None
-
-  -- of no column
-  pub made_none : (edges : List Edge) (cut : Cut) (t : ℕ) (after : List V) → IsMadeBelow edges cut 0 t after (record { primary = 0; secondary = 0; skipped = 0; empty = 0; moved = 0 })
-  made_none edges cut t after =
+  -- of no part
+  pub made_none : (edges : List Edge) (cut : Cut) (t : ℕ) (after : List V) (moved : ℕ) → moved ≡ 0 → IsMadeBelow p edges cut 0 t after moved
+  made_none edges cut t after moved none_moved =
       let first : 0 ≡ first_vertex cut.vertices (chunk_of cut) 0 = omega arith in
       record {
         chunk = subst (λ (n : ℕ). IsChunk (values p edges (suc t)) 0 (take n after)) first (record { at = λ d k below. absurd (omega arith) });
-        counted = ap (λ (n : ℕ). tally_of edges (chunk_of cut) [] (came_of edges t n).moved) first;
-        none = ap (λ (n : ℕ). (came_of edges t n).over) (sym first);
+        count = none_moved ∙ ap (λ (n : ℕ). (came_of p edges t n).moved) first;
+        none = ap (λ (n : ℕ). (came_of p edges t n).over) (sym first);
       }
 
 module _ {V S : Type 0} (p : Program V S) (state : ℕ → V) (sum : ℕ → S) where
@@ -82,25 +79,52 @@ over_none : (o : Option ℕ) → option_map vertex_of o ≡ None → o ≡ None
 over_none None h = refl
 over_none (Some u) h = absurd (cc)
 
+-- all parts have all vertices
+pub all_parts : (cut : Cut) (j : ℕ) → 0 < cut.parts → j ≡ cut.parts → first_vertex cut.vertices (chunk_of cut) j ≡ cut.vertices
+all_parts cut j some all =
+    let suffice = parts_suffice cut.vertices cut.parts some in
+    ap (λ (k : ℕ). first_vertex cut.vertices (chunk_of cut) k) all ∙ omega arith
+
 module _ {V S : Type 0} (p : Program V S) where
-  -- all columns make the iteration
-  pub made_all : (edges : List Edge) (cut : Cut) (j t : ℕ) (after : List V) (counts : Counts) → 0 < cut.parts → j ≡ cut.parts → length after ≡ cut.vertices → IsMadeBelow p edges cut j t after counts → IsMade p edges cut t after counts
-  made_all edges cut j t after counts some all long made =
-      let suffice = parts_suffice cut.vertices cut.parts some in
-      let whole : first_vertex cut.vertices (chunk_of cut) j ≡ cut.vertices = ap (λ (k : ℕ). first_vertex cut.vertices (chunk_of cut) k) all ∙ omega arith in
+  -- all parts make the iteration
+  pub made_all : (edges : List Edge) (cut : Cut) (kind : Kind) (ahead : Bool) (j t : ℕ) (after : List V) (early : List S) (counts : Counts) → 0 < cut.parts → j ≡ cut.parts → length after ≡ cut.vertices
+      → IsMadeBelow p edges cut j t after counts.moved → counts ≡ tally_of kind edges (chunk_of cut) (places_below kind cut.parts j) counts.moved
+      → (ahead ≡ true → IsChunk (early_sum p edges (chunk_of cut) (values p edges (suc t))) 0 early) → IsPassed p edges cut kind ahead t after early counts
+  made_all edges cut kind ahead j t after early counts some all long made counted sums =
+      let whole = all_parts cut j some all in
       record {
-        chunk = subst (IsChunk (values p edges (suc t)) 0) (take_all (first_vertex cut.vertices (chunk_of cut) j) after (omega arith)) made.chunk;
-        counted = made.counted ∙ ap (λ (k : ℕ). tally_of edges (chunk_of cut) (places_below cut.parts k) (came_of p edges t (first_vertex cut.vertices (chunk_of cut) j)).moved) all
-            ∙ ap (λ (n : ℕ). tally_of edges (chunk_of cut) (passes cut.parts) (came_of p edges t n).moved) whole;
+        holds = subst (IsChunk (values p edges (suc t)) 0) (take_all (first_vertex cut.vertices (chunk_of cut) j) after (omega arith)) made.chunk;
+        early = sums;
+        counted = counted ∙ ap (λ (k : ℕ). tally_of kind edges (chunk_of cut) (places_below kind cut.parts k) counts.moved) all
+            ∙ ap (tally_of kind edges (chunk_of cut) (passes kind cut.parts)) (made.count ∙ ap (λ (n : ℕ). (came_of p edges t n).moved) whole);
         none = over_none _ (sym (ap (λ (n : ℕ). (came_of p edges t n).over) whole) ∙ made.none);
       }
 
+-- an iteration by one of its kind is the one of the run
+pub passed_made : {V S : Type 0} (p : Program V S) (edges : List Edge) (cut : Cut) (mode : Mode) (limit t : ℕ) (kind : Kind) (ahead : Bool) (after : List V) (early : List S) (result : Result Counts Stop)
+    → kind ≡ kind_of mode (suc t) → ahead ≡ feeds_ahead mode limit (suc t)
+    → MatchResult result (IsPassed p edges cut kind ahead t after early) (IsUnmade p edges cut t) → MatchResult result (IsMade p edges cut mode limit t after early) (IsUnmade p edges cut t)
+passed_made p edges cut mode limit t kind ahead after early (Ok counts) kind_is ahead_is passed = record {
+  kept = record { holds = passed.holds; ahead = λ on. passed.early (ahead_is ∙ on) };
+  counted = passed.counted ∙ ap (λ k. tally_of k edges (chunk_of cut) (passes k cut.parts) (moved_count p edges cut.vertices t)) kind_is;
+  none = passed.none;
+}
+passed_made p edges cut mode limit t kind ahead after early (Err stop) kind_is ahead_is unmade = unmade
+
+-- a chunk put behind those before it
+pub chunk_put : {X : Type 0} (state : ℕ → X) (xs new : List X) (first size start past : ℕ) → first ≡ start → past ≡ first + length new → first ≤ length xs
+    → IsChunk state 0 (take start xs) → IsChunk state start new → IsChunk state 0 (take past (put_mid first size xs new))
+chunk_put state xs new first size start past is grown inside front here =
+    let kept : IsChunk state 0 (take first xs) = subst (λ f. IsChunk state 0 (take f xs)) (sym is) front in
+    subst (IsChunk state 0) (sym (take-put_mid first size xs new past grown inside))
+    (chunk_append state 0 (take first xs) new first (omega (arith, length-take {A = _} first xs)) kept (subst (λ f. IsChunk state f new) (sym is) here))
+
 module _ {V S : Type 0} {ValueIn : V → Type 0} {SumIn : S → Type 0} (p : Program V S) (laws : Lawful ValueIn SumIn p) where
   -- a column's sums are those of all edges
-  pub column_chunk : (edges : List Edge) (cut : Cut) (table : BlockCounts) (told : FileKind → Option (List ℕ)) (j t : ℕ) (sums : List S) (unit : S) → IsOnGrid edges cut table told → unit ≡ p.unit → length sums ≡ part_length cut.vertices (chunk_of cut) j
-      → IsChunk (λ v. fed_sum p (column edges (chunk_of cut) j cut.parts) (values p edges t) v unit) (first_vertex cut.vertices (chunk_of cut) j) sums
+  pub column_chunk : (edges : List Edge) (cut : Cut) (table : BlockCounts) (told : FileKind → Option (List ℕ)) (j t : ℕ) (sums : List S) → IsOnGrid edges cut table told → length sums ≡ part_length cut.vertices (chunk_of cut) j
+      → IsFedTo p edges cut j cut.parts (values p edges t) sums
       → IsChunk (sum_at p edges (values p edges t)) (first_vertex cut.vertices (chunk_of cut) j) sums
-  column_chunk edges cut table told j t sums unit grid unit_is long chunk =
+  column_chunk edges cut table told j t sums grid long chunk =
       let n = cut.vertices in
       let first = first_vertex n (chunk_of cut) j in
       let some = grid.limits.some_parts in
@@ -108,5 +132,4 @@ module _ {V S : Type 0} {ValueIn : V → Type 0} {SumIn : S → Type 0} (p : Pro
       let known : (u : ℕ) → u < 2 ^ 32 → ValueIn (values p edges t u) = λ u h. values_in p laws edges t u grid.limits.few numbers h in
       chunk_same _ _ first sums (λ k h.
       let inside : IsInPart n (chunk_of cut) j (first + k) = record { low = omega arith; high = omega arith } in
-      ap (fed_sum p (column edges (chunk_of cut) j cut.parts) (values p edges t) (first + k)) unit_is
-      ∙ column-sum p laws edges (values p edges t) n cut.parts j (first + k) some ((cover_once n cut.parts some).alone j (first + k) inside).1 known numbers grid.limits.ends) chunk
+      column-sum p laws edges (values p edges t) n cut.parts j (first + k) some ((cover_once n cut.parts some).alone j (first + k) inside).1 known numbers grid.limits.ends) chunk

@@ -1,10 +1,10 @@
 -- The iterations of a run, one after another.
-use Rattle.std.proofs.Common.{◌≡◌, ◌⊎◌, inl, inr, ◌<◌, ◌≤◌, ℕ, suc, ◌+◌, ◌-◌, ◌*◌, List, [], ◌++◌, Option, Some, None, Result, Ok, Err, refl, sym, ap, ap₂, ◌∙◌, subst, arith, add-one, append-nil, append_assoc}
-use Rattle.std.proofs.Math.Nat.{add-mul}
+use Rattle.std.proofs.Common.{◌≡◌, ◌⊎◌, inl, inr, ◌<◌, ◌≤◌, ℕ, suc, ◌+◌, ◌-◌, List, [], ◌++◌, Option, Some, None, Result, Ok, Err, refl, sym, ap, ap₂, ◌∙◌, subst, arith, add-one, append-nil, append_assoc}
 use Rattle.std.proofs.lemmas.Bool.{cases_eq}
 use Rattle.lumos_base.specs.declared.records.Edge.{Edge}
 use Rattle.lumos_depot.specs.Streams.{AppendsFront, after_told}
 use Rattle.lumos_depot.specs.declared.depot.FileKind.{FileKind}
+use Rattle.lumos_depot.specs.declared.depot.FileKind.TheVariants.{Primary, Secondary}
 use Rattle.lumos_depot.proofs.Written.{after_told-after, front_behind, front_longer, front_none, front_whole}
 use Rattle.lumos_law.specs.Program.{Program}
 use Rattle.lumos_law.specs.Sync.{Ending as EndingOf, over_in, ending, ending_from}
@@ -15,38 +15,40 @@ use Rattle.lumos_report.specs.declared.records.Why.{Why}
 use Rattle.lumos_report.specs.declared.records.Why.TheVariants.{Still, Limit}
 use Rattle.value_files.specs.Outside.{RoseBy}
 use Rattle.early_engine.specs.Engines.{EngineState, IsSameRun, IsStanding, cut_in}
-use Rattle.early_engine.specs.Passes.{bytes_of, passes}
+use Rattle.early_engine.specs.Passes.{kind_of, primary_bytes, primary_taken, secondary_bytes, secondary_taken}
 use Rattle.early_engine.specs.Report.{closing_line, end_line, finished, first_lines, later_lines, turn_lines, turn_text}
 use Rattle.early_engine.specs.Runs.{RunComes}
 use Rattle.early_engine.specs.Starts.{StartComes}
 use Rattle.early_engine.specs.Turns.{ending_by_why, HasTurned, TurnComes}
+use Rattle.early_engine.specs.declared.options.Mode.{Mode}
 use Rattle.early_engine.specs.declared.options.RunFault.{RunFault}
 use Rattle.early_engine.specs.declared.options.RunFault.TheVariants.{Depot, Out, Range, Damaged}
 use Rattle.early_engine.specs.declared.options.RunOptions.{RunOptions}
 use Rattle.early_engine.specs.declared.options.Show.{Show}
 use Rattle.early_engine.specs.declared.options.Turn.TheVariants.{Going, Ended}
 use Rattle.early_engine.proofs.Repeats.{texts, texts_cut, texts_from, texts_more}
+use Rattle.early_engine.proofs.TakenLemmas.{rose_first}
 use Rattle.early_engine.proofs.TurnLemmas.{closing_elsewhere, closing_here, closing_next, reaches}
 
 by_why_finished : (why : Why) (t : ℕ) → finished (ending_by_why why t) ≡ t
 by_why_finished Still t = refl
 by_why_finished Limit t = refl
 
-module _ {V S : Type 0} (p : Program V S) (show : Show) (edges : List Edge) (cut : Cut) (limit t : ℕ) (is : ending p edges cut.vertices limit ≡ ending_from p edges cut.vertices (limit - t) t) (written mid after : Option (List ℕ)) (items : List V) where
+module _ {V S : Type 0} (p : Program V S) (show : Show) (mode : Mode) (edges : List Edge) (cut : Cut) (limit t : ℕ) (is : ending p edges cut.vertices limit ≡ ending_from p edges cut.vertices (limit - t) t) (written mid after : Option (List ℕ)) (items : List V) (sums : List S) where
   abbrev lines : ℕ → List ℕ
-  lines = turn_lines p show edges cut.vertices cut.parts
+  lines = turn_lines p show mode edges cut.vertices cut.parts
 
   abbrev end : EndingOf
   end = ending p edges cut.vertices limit
 
   abbrev later : List ℕ
-  later = later_lines p show edges cut.vertices cut.parts limit
+  later = later_lines p show mode edges cut.vertices cut.parts limit
 
   abbrev text : List ℕ
-  text = turn_text p show edges cut.vertices cut.parts limit t
+  text = turn_text p show mode edges cut.vertices cut.parts limit t
 
   -- the lines of an iteration behind which the run goes on
-  pub going_text : mid ≡ after_told written (texts lines t) → HasTurned p show edges cut limit t items mid after Going → after ≡ after_told written (texts lines (t + 1))
+  pub going_text : mid ≡ after_told written (texts lines t) → HasTurned p show mode edges cut limit t items sums mid after Going → after ≡ after_told written (texts lines (t + 1))
   going_text before turned =
       let left : limit - suc t ≡ suc (limit - suc t - 1) = let low : suc t < limit = turned.tells.0 in omega arith in
       let none = ap (closing_line (suc t)) (turned.tells.1 ∙ ap (λ (k : ℕ). ending_from p edges cut.vertices k (suc t)) left) ∙ closing_next p edges cut.vertices (limit - suc t - 1) (suc t) in
@@ -76,7 +78,7 @@ module _ {V S : Type 0} (p : Program V S) (show : Show) (edges : List Edge) (cut
       )
 
   -- the run ends with an iteration
-  pub ended_comes : (ending : Ending) → mid ≡ after_told written (texts lines t) → HasTurned p show edges cut limit t items mid after (Ended ending) → RunComes end later written after (Ok ending)
+  pub ended_comes : (ending : Ending) → mid ≡ after_told written (texts lines t) → HasTurned p show mode edges cut limit t items sums mid after (Ended ending) → RunComes end later written after (Ok ending)
   ended_comes ending before turned =
       let last : finished end ≡ suc t = ap finished turned.tells.0 ∙ by_why_finished ending.why ending.iterations ∙ turned.tells.1 in (
         turned.tells.0,
@@ -96,7 +98,7 @@ module _ {V S : Type 0} (p : Program V S) (show : Show) (edges : List Edge) (cut
       sym (append-nil (texts lines t)) ∙ ap₂ (λ (k : ℕ) (e : EndingOf). texts lines k ++ end_line e) (sym done) (sym over)
 
   -- the run stops in an iteration
-  pub stopped_comes : (fault : RunFault) → mid ≡ after_told written (texts lines t) → TurnComes p show edges cut limit t items mid after (Err fault) → RunComes end later written after (Err fault)
+  pub stopped_comes : (fault : RunFault) → mid ≡ after_told written (texts lines t) → TurnComes p show mode edges cut limit t items sums mid after (Err fault) → RunComes end later written after (Err fault)
   stopped_comes Depot before same = subst (λ m. AppendsFront written m later) (sym same) (before_front before)
   stopped_comes Out before cut_off =
       let within = text_within cut_off.1 (cases_eq (suc t) (finished end)) in
@@ -112,13 +114,13 @@ pub record Key (G : Type 0) : Type 0 where
   pub options : RunOptions
   pub info : GridInfo
 
-abbrev pub key_of : {G V : Type 0} → EngineState G V → Key G
+abbrev pub key_of : {G V S : Type 0} → EngineState G V S → Key G
 key_of w = record { program = w.program; options = w.options; info = w.info }
 
-pub same_key : {G V : Type 0} (a b : EngineState G V) → IsSameRun a b → key_of b ≡ key_of a
+pub same_key : {G V S : Type 0} (a b : EngineState G V S) → IsSameRun a b → key_of b ≡ key_of a
 same_key a b same = λ i. record { program = same.program i; options = same.options i; info = same.info i }
 
-pub same_run : {G V : Type 0} (a b d : EngineState G V) → IsSameRun a b → IsSameRun b d → IsSameRun a d
+pub same_run : {G V S : Type 0} (a b d : EngineState G V S) → IsSameRun a b → IsSameRun b d → IsSameRun a d
 same_run a b d first second = record {
   program = second.program ∙ first.program;
   options = second.options ∙ first.options;
@@ -126,47 +128,50 @@ same_run a b d first second = record {
   table = second.table ∙ first.table;
 }
 
-pub same_self : {G V : Type 0} (a : EngineState G V) → IsSameRun a a
+pub same_self : {G V S : Type 0} (a : EngineState G V S) → IsSameRun a a
 same_self a = record { program = refl; options = refl; info = refl; table = refl }
 
 module _ {G V S : Type 0} (model : G → Program V S) (edges : List Edge) where
   abbrev pub lines_of : Key G → ℕ → List ℕ
-  lines_of k = turn_lines (model k.program) k.options.show edges k.info.vertices k.info.parts
+  lines_of k = turn_lines (model k.program) k.options.show k.options.mode edges k.info.vertices k.info.parts
 
   abbrev pub end_of : Key G → EndingOf
   end_of k = ending (model k.program) edges k.info.vertices k.options.iterations
 
   abbrev pub later_of : Key G → List ℕ
-  later_of k = later_lines (model k.program) k.options.show edges k.info.vertices k.info.parts k.options.iterations
+  later_of k = later_lines (model k.program) k.options.show k.options.mode edges k.info.vertices k.info.parts k.options.iterations
 
-  abbrev pub bytes_in : Key G → ℕ
-  bytes_in k = bytes_of edges (chunk_of (cut_in k.info)) (passes k.info.parts)
+  -- what iteration t takes of the two files, and what the first n take
+  abbrev pub primary_at : Key G → ℕ → ℕ
+  primary_at k t = primary_bytes (kind_of k.options.mode t) edges (chunk_of (cut_in k.info)) k.info.parts
+
+  abbrev pub secondary_at : Key G → ℕ → ℕ
+  secondary_at k t = secondary_bytes (kind_of k.options.mode t) edges (chunk_of (cut_in k.info)) k.info.parts
+
+  abbrev pub primary_in : Key G → ℕ → ℕ
+  primary_in k n = primary_taken k.options.mode edges (chunk_of (cut_in k.info)) k.info.parts n
+
+  abbrev pub secondary_in : Key G → ℕ → ℕ
+  secondary_in k n = secondary_taken k.options.mode edges (chunk_of (cut_in k.info)) k.info.parts n
 
   -- An engine that goes on in a run: it stands, the lines of its iterations are written, and their blocks were taken.
-  pub record IsRunning (k : Key G) (w : EngineState G V) (told : FileKind → Option (List ℕ)) (written now : Option (List ℕ)) (before taken : ℕ) : Type 0 where
+  pub record IsRunning (k : Key G) (w : EngineState G V S) (told : FileKind → Option (List ℕ)) (written now : Option (List ℕ)) (before taken : FileKind → ℕ) : Type 0 where
     pub stands : IsStanding (model k.program) edges told w
     pub text : now ≡ after_told written (texts (lines_of k) w.finished)
-    pub rose : RoseBy before taken (w.finished * bytes_in k)
+    pub primary : RoseBy (before Primary) (taken Primary) (primary_in k w.finished)
+    pub secondary : RoseBy (before Secondary) (taken Secondary) (secondary_in k w.finished)
 
   told_none : (told : Option (List ℕ)) → told ≡ after_told told []
   told_none None = refl
   told_none (Some held) = ap Some (sym (append-nil held))
 
-  pub running_first : (w : EngineState G V) (told : FileKind → Option (List ℕ)) (written : Option (List ℕ)) (before : ℕ) → w.finished ≡ 0 → IsStanding (model w.program) edges told w → IsRunning (key_of w) w told written written before before
+  pub running_first : (w : EngineState G V S) (told : FileKind → Option (List ℕ)) (written : Option (List ℕ)) (before : FileKind → ℕ) → w.finished ≡ 0 → IsStanding (model w.program) edges told w → IsRunning (key_of w) w told written written before before
   running_first w told written before none stands = record {
     stands = stands;
     text = told_none written ∙ ap (λ (k : ℕ). after_told written (texts (lines_of (key_of w)) k)) (sym none);
-    rose = λ low. let e : w.finished * bytes_in (key_of w) ≡ 0 = ap (λ (k : ℕ). k * bytes_in (key_of w)) none ∙ (let z : 0 * bytes_in (key_of w) ≡ 0 = omega arith in z) in omega arith;
+    primary = rose_first (primary_at (key_of w)) w.finished (before Primary) none;
+    secondary = rose_first (secondary_at (key_of w)) w.finished (before Secondary) none;
   }
-
-  -- one iteration more
-  pub rose_next : (k : Key G) (t next before mid after : ℕ) → next ≡ t + 1 → RoseBy before mid (t * bytes_in k) → RoseBy mid after (bytes_in k) → RoseBy before after (next * bytes_in k)
-  rose_next k t next before mid after at first second low =
-      let b = bytes_in k in
-      let two = second low in
-      let one = first (omega arith) in
-      let all = ap (λ (m : ℕ). m * b) at ∙ add-mul t 1 b in
-      omega arith
 
 -- what comes of the iterations, behind the lines at first
 pub run_then : (last : EndingOf) (first rest : List ℕ) (old mid new : Option (List ℕ)) (r : Result Ending RunFault) → mid ≡ after_told old first → RunComes last rest mid new r → RunComes last (first ++ rest) old new r

@@ -3,25 +3,27 @@ use Rattle.std.specs.Prelude.{◌≡◌, ◌≤◌, ◌<◌, ◌-◌, ℕ, List,
 use Rattle.lumos_base.specs.declared.records.Edge.{Edge}
 use Rattle.lumos_depot.specs.declared.depot.FileKind.{FileKind}
 use Rattle.lumos_law.specs.Program.{Program}
-use Rattle.lumos_law.specs.Sync.{ending, ending_from, values, IsChunk}
+use Rattle.lumos_law.specs.Sync.{ending, ending_from}
 use Rattle.partition.specs.Parts.{Cut, chunk_of}
 use Rattle.grid_format.specs.Grid.{grid_head}
 use Rattle.grid_format.specs.Heads.{IsHead}
 use Rattle.grid_format.specs.Tables.{BlockCounts}
 use Rattle.grid_format.specs.declared.head.GridInfo.{GridInfo}
+use Rattle.early_engine.specs.Early.{IsKept}
 use Rattle.early_engine.specs.Grids.{IsLaid, IsOnGrid}
 use Rattle.early_engine.specs.declared.options.Phase.{Phase}
 use Rattle.early_engine.specs.declared.options.Phase.TheVariants.{Fresh, Going}
 use Rattle.early_engine.specs.declared.options.RunOptions.{RunOptions}
 
--- a program with its options over a grid with this head and table, the values that are kept, how far it is, and how many
--- iterations were finished
-pub record EngineState (G V : Type 0) : Type 0 where
+-- a program with its options over a grid with this head and table, the values and the early sums that are kept, how far it
+-- is, and how many iterations were finished
+pub record EngineState (G V S : Type 0) : Type 0 where
   pub program : G
   pub options : RunOptions
   pub info : GridInfo
   pub table : BlockCounts
   pub values : List V
+  pub early : List S
   pub phase : Phase
   pub finished : ℕ
 
@@ -29,14 +31,14 @@ pub record EngineState (G V : Type 0) : Type 0 where
 abbrev pub cut_in : GridInfo → Cut
 cut_in info = record { vertices = info.vertices; parts = info.parts }
 
--- The lists of an engine have the values of all vertices twice, the sums of a part twice, and the edges of the longest
--- block.
-pub record IsRoomy (cut : Cut) (table : BlockCounts) (before after sums ahead edges : ℕ) : Type 0 where
+-- The lists of an engine have the values of all vertices twice, the sums of a part, the early sums of all vertices, and the
+-- edges of the longest block.
+pub record IsRoomy (cut : Cut) (table : BlockCounts) (before after sums early edges : ℕ) : Type 0 where
   pub laid : IsLaid cut table edges
   pub before_fits : before ≡ cut.vertices
   pub after_fits : after ≡ cut.vertices
   pub sums_fit : sums ≡ chunk_of cut
-  pub ahead_fit : ahead ≡ chunk_of cut
+  pub early_fits : early ≡ cut.vertices
 
 -- The iterations that are finished are fewer than those that are asked for as long as the run goes on, and none at first.
 pub record IsCounted (options : RunOptions) (phase : Phase) (finished : ℕ) : Type 0 where
@@ -46,31 +48,31 @@ pub record IsCounted (options : RunOptions) (phase : Phase) (finished : ℕ) : T
   pub none : phase ≡ Fresh → finished ≡ 0
 
 -- The parts of an engine fit one another.
-pub record IsEngine (info : GridInfo) (options : RunOptions) (cut : Cut) (table : BlockCounts) (before after sums ahead edges : ℕ) (phase : Phase) (finished : ℕ) : Type 0 where
+pub record IsEngine (info : GridInfo) (options : RunOptions) (cut : Cut) (table : BlockCounts) (before after sums early edges : ℕ) (phase : Phase) (finished : ℕ) : Type 0 where
   pub head : IsHead info
   pub cut_fits : cut ≡ cut_in info
   pub whole : sum table.counts ≡ info.edges
-  pub roomy : IsRoomy cut table before after sums ahead edges
+  pub roomy : IsRoomy cut table before after sums early edges
   pub counted : IsCounted options phase finished
 
 -- The run is the same: its program, its options and its grid.
-pub record IsSameRun {G V : Type 0} (old new : EngineState G V) : Type 0 where
+pub record IsSameRun {G V S : Type 0} (old new : EngineState G V S) : Type 0 where
   pub program : new.program ≡ old.program
   pub options : new.options ≡ old.options
   pub info : new.info ≡ old.info
   pub table : new.table ≡ old.table
 
 -- An engine was opened on the grid of these edges, which a depot tells, and nothing was done.
-pub record IsOpened {G V : Type 0} (edges : List Edge) (told : FileKind → Option (List ℕ)) (engine : EngineState G V) : Type 0 where
+pub record IsOpened {G V S : Type 0} (edges : List Edge) (told : FileKind → Option (List ℕ)) (engine : EngineState G V S) : Type 0 where
   pub grid : IsOnGrid edges (cut_in engine.info) engine.table told
   pub head : engine.info ≡ grid_head edges engine.info.vertices engine.info.parts
   pub phase : engine.phase ≡ Fresh
 
--- An engine stands for the grid of these edges, which a depot tells: its values are those of synchronous execution after
--- the iterations that are finished, and the run ends with none of these.
-pub record IsStanding {G V S : Type 0} (p : Program V S) (edges : List Edge) (told : FileKind → Option (List ℕ)) (engine : EngineState G V) : Type 0 where
+-- An engine stands for the grid of these edges, which a depot tells: it keeps the values of synchronous execution after the
+-- iterations that are finished, and the early sums where the last of them fed ahead, and the run ends with none of them.
+pub record IsStanding {G V S : Type 0} (p : Program V S) (edges : List Edge) (told : FileKind → Option (List ℕ)) (engine : EngineState G V S) : Type 0 where
   pub grid : IsOnGrid edges (cut_in engine.info) engine.table told
-  pub holds : IsChunk (values p edges engine.finished) 0 engine.values
+  pub kept : IsKept p edges (cut_in engine.info) engine.options.mode engine.options.iterations engine.finished engine.values engine.early
   pub phase : engine.phase ≡ Going
   pub left : engine.finished < engine.options.iterations
   pub goes_on : ending p edges engine.info.vertices engine.options.iterations

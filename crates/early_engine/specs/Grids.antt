@@ -1,17 +1,19 @@
 -- The grid whose blocks an iteration reads, and why they weren't read.
-use Rattle.std.specs.Prelude.{◌≡◌, ◌≤◌, ◌<◌, ⊤, ℕ, ◌*◌, List, length, sum, All, Option}
+use Rattle.std.specs.Prelude.{◌≡◌, ◌≤◌, ◌<◌, ⊤, ℕ, ◌*◌, List, length, sum, All, IfSome, Option}
 use Rattle.lumos_base.specs.Records.{IsEdge}
 use Rattle.lumos_base.specs.declared.records.Edge.{Edge}
 use Rattle.lumos_depot.specs.declared.depot.FileKind.{FileKind}
-use Rattle.lumos_depot.specs.declared.depot.FileKind.TheVariants.{Primary}
 use Rattle.partition.specs.Parts.{Cut, chunk_of, part_range}
 use Rattle.grid_format.specs.Grid.{HasGrid, grid, grid_table}
 use Rattle.grid_format.specs.Outside.{Holds}
-use Rattle.grid_format.specs.Tables.{BlockCounts, count_at, primary_place_of}
+use Rattle.grid_format.specs.Tables.{BlockCounts, count_at, low_edges, primary_place_of, secondary_place_of}
+use Rattle.lumos_report.specs.declared.records.Kind.{Kind}
+use Rattle.lumos_report.specs.declared.records.Kind.TheVariants.{Full, Fed}
 use Rattle.value_files.specs.declared.fault.FileFault.{FileFault}
 use Rattle.value_files.specs.declared.fault.FileFault.TheVariants.{Depot, Damaged}
 use Rattle.column_stream.specs.Records.{IsStray}
 use Rattle.column_stream.specs.declared.records.Ends.{Ends}
+use Rattle.early_engine.specs.Passes.{file_of}
 
 -- A depot tells the files of the grid of these edges, and the table is that of its blocks.
 pub record IsOnGrid (edges : List Edge) (cut : Cut) (table : BlockCounts) (told : FileKind → Option (List ℕ)) : Type 0 where
@@ -32,18 +34,35 @@ pub record IsLaid (cut : Cut) (table : BlockCounts) (room : ℕ) : Type 0 where
 abbrev pub ends_of : Cut → ℕ → ℕ → Ends
 ends_of cut i j = record { sources = part_range cut.vertices (chunk_of cut) i; targets = part_range cut.vertices (chunk_of cut) j }
 
--- A word of some block's records, at its place in Primary, is no vertex of the part in which it has to lie.
-pub record IsStrayWord (cut : Cut) (table : BlockCounts) (place found : ℕ) : Type 0 where
+-- where block (i,j) begins in the file from which iterations of a kind read
+abbrev pub place_in : Kind → BlockCounts → ℕ → ℕ → ℕ
+place_in Full table i j = primary_place_of table i j
+place_in Fed table i j = secondary_place_of table i j
+
+-- how many bytes the blocks have in that file
+abbrev pub bytes_in : Kind → BlockCounts → ℕ
+bytes_in Full table = 12 * sum table.counts
+bytes_in Fed table = 12 * low_edges table table.parts
+
+-- Where they are told, Primary and Secondary are long enough for the blocks of a table.
+abbrev pub HasBlocks : BlockCounts → (FileKind → Option (List ℕ)) → Type 0
+HasBlocks table told = (kind : Kind) → IfSome (told (file_of kind)) (λ file. bytes_in kind table ≤ length file)
+
+-- A word of some block's records, at its place in the file from which iterations of some kind read, is no vertex of the
+-- part in which it has to lie.
+pub record IsStrayWord (cut : Cut) (table : BlockCounts) (file : FileKind) (place found : ℕ) : Type 0 where
+  pub kind : Kind
   pub row : ℕ
   pub column : ℕ
+  pub file_is : file ≡ file_of kind
   pub row_in : row < cut.parts
   pub column_in : column < cut.parts
-  pub stray : IsStray (ends_of cut row column) (primary_place_of table row column) (count_at table row column) place found
+  pub stray : IsStray (ends_of cut row column) (place_in kind table row column) (count_at table row column) place found
 
 -- a fault that shows such a word
 abbrev pub ShowsStray : Cut → BlockCounts → FileFault → Type 0
 ShowsStray cut table Depot = ⊤
-ShowsStray cut table (Damaged file place found) = (file ≡ Primary) × IsStrayWord cut table place found
+ShowsStray cut table (Damaged file place found) = IsStrayWord cut table file place found
 
 -- the depot failed, and no record was damaged
 abbrev pub IsIntact : FileFault → Type 0

@@ -1,3 +1,5 @@
+pub mod Core
+pub mod Early
 pub mod Engines
 pub mod Grids
 pub mod Making
@@ -6,4 +8,5 @@ pub mod Passes
 pub mod Report
 pub mod Runs
 pub mod Starts
+pub mod Steps
 pub mod Turns

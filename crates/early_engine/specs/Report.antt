@@ -9,9 +9,9 @@ use Rattle.lumos_law.specs.Sync.{Ending as EndingOf, over_in, still_in, limit_at
 use Rattle.partition.specs.Parts.{chunk_size}
 use Rattle.grid_format.specs.Grid.{grid_head}
 use Rattle.lumos_report.specs.Report.{counts_line, ending_line, head_line, value_line, zero_line}
-use Rattle.lumos_report.specs.declared.records.Kind.TheVariants.{Full}
 use Rattle.lumos_report.specs.declared.records.Why.TheVariants.{Still, Limit}
-use Rattle.early_engine.specs.Passes.{passes, tally_of}
+use Rattle.early_engine.specs.Passes.{kind_of, passes, tally_of}
+use Rattle.early_engine.specs.declared.options.Mode.{Mode}
 use Rattle.early_engine.specs.declared.options.Show.{Show}
 use Rattle.early_engine.specs.declared.options.Show.TheVariants.{All, Brief}
 use Rattle.early_engine.specs.declared.options.Turn.{Turn}
@@ -45,24 +45,25 @@ module _ {V S : Type 0} (p : Program V S) where
       head_line name (grid_head edges n parts) ++ (zero_line ++ shown_lines show (values p edges 0) n)
 
   -- the lines of iteration t + 1: its blocks, how many values moved, and the values
-  abbrev pub turn_lines : Show → List Edge → ℕ → ℕ → ℕ → List ℕ
-  turn_lines show edges n parts t =
-      counts_line (suc t) Full (tally_of edges (chunk_size n parts) (passes parts) (moved_count p edges n t)) ++ shown_lines show (values p edges (suc t)) n
+  abbrev pub turn_lines : Show → Mode → List Edge → ℕ → ℕ → ℕ → List ℕ
+  turn_lines show mode edges n parts t =
+      let kind = kind_of mode (suc t) in
+      counts_line (suc t) kind (tally_of kind edges (chunk_size n parts) (passes kind parts) (moved_count p edges n t)) ++ shown_lines show (values p edges (suc t)) n
 
   -- what iteration t + 1 writes in a run of at most `limit` iterations: its lines, and the last line where the run ends with it
-  abbrev pub turn_text : Show → List Edge → ℕ → ℕ → ℕ → ℕ → List ℕ
-  turn_text show edges n parts limit t =
-      turn_lines show edges n parts t ++ closing_line (suc t) (ending p edges n limit)
+  abbrev pub turn_text : Show → Mode → List Edge → ℕ → ℕ → ℕ → ℕ → List ℕ
+  turn_text show mode edges n parts limit t =
+      turn_lines show mode edges n parts t ++ closing_line (suc t) (ending p edges n limit)
 
   -- the lines from the first iteration on: those of each finished iteration, and how the run ended
-  abbrev pub later_lines : Show → List Edge → ℕ → ℕ → ℕ → List ℕ
-  later_lines show edges n parts limit =
-      let end = ending p edges n limit in flat_map (turn_lines show edges n parts) (range_with_len 0 (finished end)) ++ end_line end
+  abbrev pub later_lines : Show → Mode → List Edge → ℕ → ℕ → ℕ → List ℕ
+  later_lines show mode edges n parts limit =
+      let end = ending p edges n limit in flat_map (turn_lines show mode edges n parts) (range_with_len 0 (finished end)) ++ end_line end
 
   -- The report on edges between n vertices that are cut into `parts` parts, of at most `limit` iterations: the head, the
   -- values at first, the lines of each finished iteration, and how the run ended.
-  abbrev pub report : List ℕ → Show → List Edge → ℕ → ℕ → ℕ → List ℕ
-  report name show edges n parts limit = first_lines name show edges n parts ++ later_lines show edges n parts limit
+  abbrev pub report : List ℕ → Show → Mode → List Edge → ℕ → ℕ → ℕ → List ℕ
+  report name show mode edges n parts limit = first_lines name show edges n parts ++ later_lines show mode edges n parts limit
 
 -- whether a run of at most `limit` iterations goes on after iteration t, in which so many values moved
 abbrev pub turn_of : ℕ → ℕ → ℕ → Turn

@@ -3,7 +3,7 @@ use Rattle.std.specs.Prelude.{◌≡◌, ◌≢◌, ◌≤◌, ℕ, List, Option
 use Rattle.lumos_depot.specs.Files.{Same}
 use Rattle.lumos_depot.specs.Streams.{AppendsFront, after_told}
 use Rattle.lumos_depot.specs.declared.depot.FileKind.{FileKind}
-use Rattle.lumos_depot.specs.declared.depot.FileKind.TheVariants.{Primary, Info}
+use Rattle.lumos_depot.specs.declared.depot.FileKind.TheVariants.{Primary, Secondary, Info}
 use Rattle.lumos_law.specs.Sync.{Ending as EndingOf, over_in}
 use Rattle.lumos_report.specs.declared.records.Ending.{Ending}
 use Rattle.early_engine.specs.Turns.{ending_told}
@@ -19,10 +19,10 @@ RunComes end text old new (Err Out) = AppendsFront old new text
 RunComes end text old new (Err Depot) = AppendsFront old new text
 RunComes end text old new (Err (Damaged kind place found)) = ⊥
 
--- The run read Info and Primary: no file and no other count changed, and the count of faults didn't fall.
+-- The run read Info, Primary and Secondary: no file and no other count changed, and the count of faults didn't fall.
 pub record Streams {D : Type 0} (h : D → FileKind → Option (List ℕ)) (t s : D → FileKind → ℕ) (f : D → ℕ) (a : D → Option (List ℕ)) (old new : D) : Type 0 where
   pub attached : a new ≡ a old
   pub contents : Same (h old) (h new)
-  pub taken : (kind : FileKind) → kind ≢ Primary → kind ≢ Info → t new kind ≡ t old kind
+  pub taken : (kind : FileKind) → kind ≢ Primary → kind ≢ Secondary → kind ≢ Info → t new kind ≡ t old kind
   pub stored : Same (s old) (s new)
   pub later : f old ≤ f new

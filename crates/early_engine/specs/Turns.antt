@@ -3,19 +3,20 @@ use Rattle.std.specs.Prelude.{◌≡◌, ◌≤◌, ◌<◌, ◌-◌, ⊤, ℕ, 
 use Rattle.lumos_base.specs.declared.records.Edge.{Edge}
 use Rattle.lumos_depot.specs.Streams.{AppendsFront, after_told}
 use Rattle.lumos_law.specs.Program.{Program}
-use Rattle.lumos_law.specs.Sync.{Ending as EndingOf, over_in, still_in, limit_at, ending, ending_from, values, IsChunk}
+use Rattle.lumos_law.specs.Sync.{Ending as EndingOf, over_in, still_in, limit_at, ending, ending_from}
 use Rattle.partition.specs.Parts.{Cut}
 use Rattle.grid_format.specs.Tables.{BlockCounts}
-use Rattle.lumos_depot.specs.declared.depot.FileKind.TheVariants.{Primary}
 use Rattle.lumos_report.specs.declared.records.Ending.{Ending}
 use Rattle.lumos_report.specs.declared.records.Why.{Why}
 use Rattle.lumos_report.specs.declared.records.Why.TheVariants.{Still, Limit}
 use Rattle.value_files.specs.declared.fault.FileFault.TheVariants as file
+use Rattle.early_engine.specs.Early.{IsKept}
 use Rattle.early_engine.specs.Grids.{IsStrayWord}
 use Rattle.early_engine.specs.Making.{IsOver}
 use Rattle.early_engine.specs.Report.{finished, turn_text}
 use Rattle.early_engine.specs.declared.iteration.Stop.{Stop}
 use Rattle.early_engine.specs.declared.iteration.Stop.TheVariants as stop
+use Rattle.early_engine.specs.declared.options.Mode.{Mode}
 use Rattle.early_engine.specs.declared.options.Phase.{Phase}
 use Rattle.early_engine.specs.declared.options.Phase.TheVariants as phase
 use Rattle.early_engine.specs.declared.options.RunFault.{RunFault}
@@ -52,7 +53,7 @@ abbrev pub RunShows : Cut → BlockCounts → RunFault → Type 0
 RunShows cut table Depot = ⊤
 RunShows cut table Out = ⊤
 RunShows cut table (Range t v) = ⊤
-RunShows cut table (Damaged kind place found) = (kind ≡ Primary) × IsStrayWord cut table place found
+RunShows cut table (Damaged kind place found) = IsStrayWord cut table kind place found
 
 -- the vertex that a fault carries, where it does, is over
 abbrev pub RunIsOver : {V S : Type 0} → (V → Type 0) → (S → Type 0) → Program V S → RunFault → Type 0
@@ -61,7 +62,7 @@ RunIsOver ValueIn SumIn p Out = ⊤
 RunIsOver ValueIn SumIn p (Range t v) = IsOver ValueIn SumIn p v
 RunIsOver ValueIn SumIn p (Damaged kind place found) = ⊤
 
-module _ {V S : Type 0} (p : Program V S) (show : Show) (edges : List Edge) (cut : Cut) (limit t : ℕ) where
+module _ {V S : Type 0} (p : Program V S) (show : Show) (mode : Mode) (edges : List Edge) (cut : Cut) (limit t : ℕ) where
   -- how the run ends
   abbrev pub run_end : EndingOf
   run_end = ending p edges cut.vertices limit
@@ -72,16 +73,16 @@ module _ {V S : Type 0} (p : Program V S) (show : Show) (edges : List Edge) (cut
   TurnTells (Ended end) = (run_end ≡ ending_told end) × (end.iterations ≡ suc t)
 
   -- Iteration t + 1 was made and reported.
-  pub record HasTurned (items : List V) (old new : Option (List ℕ)) (turn : Turn) : Type 0 where
-    pub holds : IsChunk (values p edges (suc t)) 0 items
-    pub written : new ≡ after_told old (turn_text p show edges cut.vertices cut.parts limit t)
+  pub record HasTurned (items : List V) (sums : List S) (old new : Option (List ℕ)) (turn : Turn) : Type 0 where
+    pub kept : IsKept p edges cut mode limit (suc t) items sums
+    pub written : new ≡ after_told old (turn_text p show mode edges cut.vertices cut.parts limit t)
     pub tells : TurnTells turn
 
   -- What comes of iteration t + 1: it is made and reported; or a vertex is over in it, as the run ends, and nothing was
   -- reported; or the outside failed, and a front of its text was written.
-  abbrev pub TurnComes : List V → Option (List ℕ) → Option (List ℕ) → Result Turn RunFault → Type 0
-  TurnComes items old new (Ok turn) = HasTurned items old new turn
-  TurnComes items old new (Err (Range iteration vertex)) = (run_end ≡ over_in iteration vertex) × (iteration ≡ suc t) × (new ≡ old)
-  TurnComes items old new (Err Out) = AppendsFront old new (turn_text p show edges cut.vertices cut.parts limit t) × (suc t ≤ finished run_end)
-  TurnComes items old new (Err Depot) = new ≡ old
-  TurnComes items old new (Err (Damaged kind place found)) = ⊥
+  abbrev pub TurnComes : List V → List S → Option (List ℕ) → Option (List ℕ) → Result Turn RunFault → Type 0
+  TurnComes items sums old new (Ok turn) = HasTurned items sums old new turn
+  TurnComes items sums old new (Err (Range iteration vertex)) = (run_end ≡ over_in iteration vertex) × (iteration ≡ suc t) × (new ≡ old)
+  TurnComes items sums old new (Err Out) = AppendsFront old new (turn_text p show mode edges cut.vertices cut.parts limit t) × (suc t ≤ finished run_end)
+  TurnComes items sums old new (Err Depot) = new ≡ old
+  TurnComes items sums old new (Err (Damaged kind place found)) = ⊥

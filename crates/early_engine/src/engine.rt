@@ -11,9 +11,11 @@ ghost use Rattle.grid_format.specs.Heads.{IsHead};
 ghost use Rattle.grid_format.specs.Outside.{Holds, OnlyReads};
 ghost use Rattle.lumos_base.specs.Records.{IsEdge};
 ghost use Rattle.value_files.specs.Outside.{Reads, RoseBy};
+ghost use Rattle.early_engine.specs.Core.{IsCoreState};
 ghost use Rattle.early_engine.specs.Engines.{IsOpened, IsSameRun, IsStanding, cut_in};
+ghost use Rattle.early_engine.specs.Grids.{HasBlocks};
 ghost use Rattle.early_engine.specs.Opens.{OpenShows};
-ghost use Rattle.early_engine.specs.Passes.{bytes_of, passes};
+ghost use Rattle.early_engine.specs.Passes.{file_of, kind_of, primary_bytes, primary_taken, secondary_bytes, secondary_taken};
 ghost use Rattle.early_engine.specs.Report.{report};
 ghost use Rattle.early_engine.specs.Runs.{RunComes, Streams};
 ghost use Rattle.early_engine.specs.Starts.{IsFromOutside, StartComes, phase_begun};
@@ -35,9 +37,14 @@ use std::alloc::Global;
 use std::marker::Model;
 
 /// A vertex program over the grid in a directory, whose iterations it makes by streaming the grid's blocks, as GridGraph
-/// does. It keeps the values of all vertices before and after an iteration, the sums of one part, and the edges of one
-/// block. Contracts see the program, the options, the grid's head and its blocks' numbers of edges, the values, how far
-/// the run is, and how many iterations were finished.
+/// does. In plain mode each iteration reads every block that has edges from Primary. In fed mode an odd iteration does
+/// that too, and feeds the blocks above the diagonal to the next one as well, whose sums for these blocks are so made
+/// early; the next one goes on from these sums, and reads only the blocks on the diagonal and below it, from Secondary.
+/// That is our own rule, and early propagation itself is an idea of LUMOS (Vora, 2019).
+///
+/// It keeps the values of all vertices before and after an iteration, the early sums of all vertices, the sums of one
+/// part, and the edges of one block. Contracts see the program, the options, the grid's head and its blocks' numbers of
+/// edges, the values, the early sums, how far the run is, and how many iterations were finished.
 #[derive(Drop)]
 pub struct Engine<G: VertexProgram> {
     program: G,
@@ -53,7 +60,7 @@ impl<G: VertexProgram> Model for Engine<G> {
     ghost use Rattle.std.specs.Prelude.{vec_len};
     ghost use Rattle.early_engine.specs.Engines.{EngineState, IsEngine};
 
-    ghost Value = { EngineState G G.Value };
+    ghost Value = { EngineState G G.Value G.Sum };
 
     ghost view = { λ e. record {
       program = e.program;
@@ -61,12 +68,13 @@ impl<G: VertexProgram> Model for Engine<G> {
       info = e.info;
       table = e.layout.table;
       values = e.room.before.items;
+      early = e.room.early.items;
       phase = e.phase;
       finished = e.finished;
     } };
 
     ghost invariant = { λ e. IsEngine e.info e.options e.layout.parts e.layout.table
-        (vec_len e.room.before) (vec_len e.room.after) (vec_len e.room.sums) (vec_len e.room.ahead) (vec_len e.room.edges) e.phase e.finished };
+        (vec_len e.room.before) (vec_len e.room.after) (vec_len e.room.sums) (vec_len e.room.early) (vec_len e.room.edges) e.phase e.finished };
 }
 
 // How far an engine is after an iteration.
@@ -81,9 +89,9 @@ fn phase_after(turn: Turn) -> Phase
 
 impl<G: VertexProgram> Engine<G> {
     /// Opens an engine for a program over the grid in the attached directory, whose files were found to be a grid's with this
-    /// head. It takes memory for the values of all vertices twice, the sums of a part twice and the edges of the longest
-    /// block, and reads the numbers of edges of the blocks from Meta. No file changes, and no other is read. The iterations
-    /// lie in 1..=1000000, which are our own bounds. The engine is fresh.
+    /// head. It takes memory for the values of all vertices twice, the early sums of all vertices, the sums of a part and
+    /// the edges of the longest block, and reads the numbers of edges of the blocks from Meta. No file changes, and no other
+    /// is read. The iterations lie in 1..=1000000, which are our own bounds. The engine is fresh.
     ///
     /// `Depot` comes only where the depot's count of faults rose, and `NoMemory` only where memory ran out. `Damaged` never
     /// comes over a depot that tells its files: it carries a number of Meta with which the blocks' edges don't add up to
@@ -107,7 +115,7 @@ impl<G: VertexProgram> Engine<G> {
         ensures told { (edges : List Edge) → All IsEdge edges → HasGrid edges info.vertices info.parts → Holds (D.holds depot.old) (grid edges info.vertices info.parts)
             → IfOk result (IsOpened edges (D.holds depot.new)) }
         ensures info_fits { IfOk result (λ engine. IfSome (D.holds depot.new FileKind.Info) (λ file. 12 * engine.info.vertices ≤ length file)) }
-        ensures primary_fits { IfOk result (λ engine. IfSome (D.holds depot.new FileKind.Primary) (λ file. 12 * engine.info.edges ≤ length file)) }
+        ensures blocks_fit { IfOk result (λ engine. HasBlocks engine.table (D.holds depot.new)) }
         ensures damaged { IfErr result (OpenShows info (D.holds depot.old FileKind.Meta)) }
         ensures depot { result ≡ Err OpenFault.Depot → Rose (D.faults depot.old) (D.faults depot.new) }
         ensures reads { OnlyReads D.holds D.taken D.stored D.faults D.attached depot.old depot.new }
@@ -134,13 +142,13 @@ impl<G: VertexProgram> Engine<G> {
     }
 
     /// How many bytes the values and sums take that the engine has room for, by their widths: the values of all vertices
-    /// twice, and the sums of a part twice.
+    /// twice, the early sums of all vertices, and the sums of a part.
     pub fn held(&self) -> u64
-        ensures { result ≡ self.now.info.vertices * (2 * G.Value.WIDTH) + chunk_of (cut_in self.now.info) * (2 * G.Sum.WIDTH) }
+        ensures { result ≡ self.now.info.vertices * (2 * G.Value.WIDTH + G.Sum.WIDTH) + chunk_of (cut_in self.now.info) * G.Sum.WIDTH }
     {
-        let values = u64::from(self.info.vertices) * (2 * G::Value::WIDTH as u64);
-        let sums = u64::from(self.layout.parts.chunk()) * (2 * G::Sum::WIDTH as u64);
-        values + sums
+        let vertex = 2 * G::Value::WIDTH as u64 + G::Sum::WIDTH as u64;
+        let sums = u64::from(self.layout.parts.chunk()) * G::Sum::WIDTH as u64;
+        u64::from(self.info.vertices) * vertex + sums
     }
 
     // How many iterations are done at most.
@@ -153,6 +161,7 @@ impl<G: VertexProgram> Engine<G> {
     /// Sets the values at first, by what the file Info says of each vertex, and writes the head of the report and these
     /// values, where they are shown. It needs an engine that is fresh, an attached directory and, where the contents are
     /// told, an Info with a record for each vertex, of which it takes each once. It takes no memory and changes no file.
+    /// What it keeps is what the event core keeps at its start. It does the same in both modes.
     ///
     /// `Depot` comes only where the depot's count of faults rose. `Out` comes only where the sink's rose, and leaves a
     /// front of the text. No other fault comes. After a fault the engine is stopped, else it is going.
@@ -165,6 +174,8 @@ impl<G: VertexProgram> Engine<G> {
             self.new.values (O.written out.old) (O.written out.new) result }
         ensures stands { (edges : List Edge) → IsOpened edges (D.holds depot.old) self.old
             → IsOk result → IsStanding (G.model self.old.program) edges (D.holds depot.new) self.new }
+        ensures core { (edges : List Edge) → IsOpened edges (D.holds depot.old) self.old
+            → OnOk result (IsCoreState (G.model self.old.program) edges (cut_in self.old.info) self.old.options.mode self.old.options.iterations 0 self.new.values self.new.early) }
         ensures same { IsSameRun self.old self.new }
         ensures every { length self.new.values ≡ self.old.info.vertices }
         ensures finished { self.new.finished ≡ 0 }
@@ -196,10 +207,15 @@ impl<G: VertexProgram> Engine<G> {
         }
     }
 
-    /// Makes the next iteration and writes its part of the report: the line of its blocks and of how many values moved,
-    /// the values where they are shown, and the last line where the run ends with it. It needs an engine that is going, an
-    /// attached directory and, where the contents are told, a Primary with the records of all edges. It takes no memory,
-    /// reads each block that has edges once, and changes no file.
+    /// Makes the next iteration and writes its part of the report: the line of its kind, its blocks and how many values
+    /// moved, the values where they are shown, and the last line where the run ends with it. It needs an engine that is
+    /// going, an attached directory and, where the contents are told, a Primary and a Secondary with the records of their
+    /// blocks. It takes no memory and changes no file.
+    ///
+    /// A full iteration reads each block that has edges once, from Primary: in plain mode each iteration is full, in fed
+    /// mode each odd one. Where one more comes after it in fed mode, it feeds that one too, from each block above the
+    /// diagonal, whose sources are final by then. A fed iteration reads each block on the diagonal and below it that has
+    /// edges once, from Secondary. What is kept then is what the event core keeps after the same passes.
     ///
     /// `Going`: the run goes on. `Ended`: it ended, still or by the limit. `Range` carries the iteration and the least
     /// vertex that is over in it, and comes exactly where there is one; nothing is written of that iteration. `Out` comes
@@ -208,24 +224,29 @@ impl<G: VertexProgram> Engine<G> {
     /// that names a vertex outside its part. After each fault, and at the end, the engine is stopped.
     pub fn turn<D: Depot, O: Sink>(&mut self, depot: &mut D, out: &mut O) -> Result<Turn, RunFault>
         requires attached { IsSome (D.attached depot.old) }
-        requires inside { IfSome (D.holds depot.old FileKind.Primary) (λ file. 12 * self.old.info.edges ≤ length file) }
+        requires inside { HasBlocks self.old.table (D.holds depot.old) }
         requires going { self.old.phase ≡ Phase.Going }
         ensures told { (edges : List Edge) → IsStanding (G.model self.old.program) edges (D.holds depot.old) self.old
-            → TurnComes (G.model self.old.program) self.old.options.show edges (cut_in self.old.info) self.old.options.iterations self.old.finished
-            self.new.values (O.written out.old) (O.written out.new) result }
+            → TurnComes (G.model self.old.program) self.old.options.show self.old.options.mode edges (cut_in self.old.info) self.old.options.iterations self.old.finished
+            self.new.values self.new.early (O.written out.old) (O.written out.new) result }
         ensures stands { (edges : List Edge) → IsStanding (G.model self.old.program) edges (D.holds depot.old) self.old
             → result ≡ Ok Turn.Going → IsStanding (G.model self.old.program) edges (D.holds depot.new) self.new }
+        ensures core { (edges : List Edge) → IsStanding (G.model self.old.program) edges (D.holds depot.old) self.old
+            → OnOk result (IsCoreState (G.model self.old.program) edges (cut_in self.old.info) self.old.options.mode self.old.options.iterations self.new.finished self.new.values self.new.early) }
         ensures same { IsSameRun self.old self.new }
         ensures every { length self.new.values ≡ self.old.info.vertices }
         ensures finished { OnOk result (self.new.finished ≡ self.old.finished + 1) }
         ensures phase { self.new.phase ≡ phase_of result }
         ensures left { self.new.phase ≡ Phase.Going → self.new.finished < self.new.options.iterations }
-        ensures taken { (edges : List Edge) → IsStanding (G.model self.old.program) edges (D.holds depot.old) self.old
+        ensures primary { (edges : List Edge) → IsStanding (G.model self.old.program) edges (D.holds depot.old) self.old
             → OnOk result (RoseBy (D.taken depot.old FileKind.Primary) (D.taken depot.new FileKind.Primary)
-            (bytes_of edges (chunk_of (cut_in self.old.info)) (passes self.old.info.parts))) }
+            (primary_bytes (kind_of self.old.options.mode (self.old.finished + 1)) edges (chunk_of (cut_in self.old.info)) self.old.info.parts)) }
+        ensures secondary { (edges : List Edge) → IsStanding (G.model self.old.program) edges (D.holds depot.old) self.old
+            → OnOk result (RoseBy (D.taken depot.old FileKind.Secondary) (D.taken depot.new FileKind.Secondary)
+            (secondary_bytes (kind_of self.old.options.mode (self.old.finished + 1)) edges (chunk_of (cut_in self.old.info)) self.old.info.parts)) }
         ensures over { IfErr result (RunIsOver G.Value.is_in_range G.Sum.is_in_range (G.model self.old.program)) }
         ensures damaged { IfErr result (RunShows (cut_in self.old.info) self.old.table) }
-        ensures reads { Reads D.holds D.taken D.stored D.faults D.attached FileKind.Primary depot.old depot.new }
+        ensures reads { Reads D.holds D.taken D.stored D.faults D.attached (file_of (kind_of self.old.options.mode (self.old.finished + 1))) depot.old depot.new }
         ensures depot { result ≡ Err RunFault.Depot → Rose (D.faults depot.old) (D.faults depot.new) }
         ensures later { O.faults out.old ≤ O.faults out.new }
         ensures out { result ≡ Err RunFault.Out → Rose (O.faults out.old) (O.faults out.new) }
@@ -253,9 +274,10 @@ impl<G: VertexProgram> Engine<G> {
     }
 
     /// Makes the whole run: the values at first, and iterations until the run ends, and writes the report. It needs an
-    /// engine that is fresh, an attached directory and, where the contents are told, an Info and a Primary with the records
-    /// of all vertices and edges. It takes no memory and changes no file. It takes each record of Info once, and in each
-    /// iteration each record of the blocks that it reads once.
+    /// engine that is fresh, an attached directory and, where the contents are told, an Info with the records of all
+    /// vertices, and a Primary and a Secondary with those of their blocks. It takes no memory and changes no file. It takes
+    /// each record of Info once, and in each iteration each record of the blocks that it reads once: in a full one from
+    /// Primary, in a fed one from Secondary, as `turn` says of the two modes.
     ///
     /// Ok tells how the run ended. `Range` carries the iteration and the least vertex that is over in it, and comes exactly
     /// where the run ends so; the report then ends after the last finished iteration. `Out` and `Depot` come only where the
@@ -264,15 +286,18 @@ impl<G: VertexProgram> Engine<G> {
     pub fn run<D: Depot, O: Sink>(self, depot: &mut D, out: &mut O) -> Result<Ending, RunFault>
         requires attached { IsSome (D.attached depot.old) }
         requires info { IfSome (D.holds depot.old FileKind.Info) (λ file. 12 * self.info.vertices ≤ length file) }
-        requires primary { IfSome (D.holds depot.old FileKind.Primary) (λ file. 12 * self.info.edges ≤ length file) }
+        requires inside { HasBlocks self.table (D.holds depot.old) }
         requires fresh { self.phase ≡ Phase.Fresh }
         ensures told { (edges : List Edge) → IsOpened edges (D.holds depot.old) self
             → RunComes (ending (G.model self.program) edges self.info.vertices self.options.iterations)
-            (report (G.model self.program) (G.name_text self.program) self.options.show edges self.info.vertices self.info.parts self.options.iterations)
+            (report (G.model self.program) (G.name_text self.program) self.options.show self.options.mode edges self.info.vertices self.info.parts self.options.iterations)
             (O.written out.old) (O.written out.new) result }
-        ensures taken { (edges : List Edge) → IsOpened edges (D.holds depot.old) self
+        ensures primary { (edges : List Edge) → IsOpened edges (D.holds depot.old) self
             → IfOk result (λ end. RoseBy (D.taken depot.old FileKind.Primary) (D.taken depot.new FileKind.Primary)
-            (end.iterations * bytes_of edges (chunk_of (cut_in self.info)) (passes self.info.parts))) }
+            (primary_taken self.options.mode edges (chunk_of (cut_in self.info)) self.info.parts end.iterations)) }
+        ensures secondary { (edges : List Edge) → IsOpened edges (D.holds depot.old) self
+            → IfOk result (λ end. RoseBy (D.taken depot.old FileKind.Secondary) (D.taken depot.new FileKind.Secondary)
+            (secondary_taken self.options.mode edges (chunk_of (cut_in self.info)) self.info.parts end.iterations)) }
         ensures info_taken { OnOk result (RoseBy (D.taken depot.old FileKind.Info) (D.taken depot.new FileKind.Info) (12 * self.info.vertices)) }
         ensures over { IfErr result (RunIsOver G.Value.is_in_range G.Sum.is_in_range (G.model self.program)) }
         ensures damaged { IfErr result (RunShows (cut_in self.info) self.table) }

@@ -1,22 +1,30 @@
-// One full iteration over the blocks of a grid in its files, column by column.
-ghost use Rattle.std.specs.Prelude.{◌≡◌, ◌≤◌, ◌<◌, ◌+◌, ◌-◌, ◌*◌, ℕ, true, List, Err, length, slice_index_or, sum, IfErr, IfOk, IfSome, IsSome, MatchResult, OnOk};
+// One iteration over the blocks of a grid in its files, column by column.
+ghost use Rattle.std.specs.Prelude.{◌≡◌, ◌≤◌, ◌<◌, ◌+◌, ℕ, false, List, Err, length, vec_len, IfErr, IsSome, MatchResult, OnOk};
 ghost use Rattle.lumos_base.specs.declared.records.Edge.{Edge};
 ghost use Rattle.lumos_depot.specs.Causes.{Rose};
 ghost use Rattle.lumos_depot.specs.declared.depot.FileKind.{FileKind};
 ghost use Rattle.lumos_law.specs.Sync.{values, IsChunk};
+ghost use Rattle.lumos_report.specs.declared.records.Kind.{Kind};
 ghost use Rattle.partition.specs.Parts.{chunk_of};
 ghost use Rattle.value_files.specs.Outside.{Reads, RoseBy};
-ghost use Rattle.early_engine.specs.Grids.{IsLaid, IsOnGrid};
-ghost use Rattle.early_engine.specs.Making.{IsMade, IsOver, IsUnmade, StopIsOver, StopShows};
-ghost use Rattle.early_engine.specs.Passes.{bytes_of, passes};
+ghost use Rattle.early_engine.specs.Early.{IsKept, early_sum};
+ghost use Rattle.early_engine.specs.Engines.{IsRoomy};
+ghost use Rattle.early_engine.specs.Grids.{HasBlocks, IsLaid, IsOnGrid};
+ghost use Rattle.early_engine.specs.Making.{IsMade, IsUnmade, StopIsOver, StopShows};
+ghost use Rattle.early_engine.specs.Passes.{bytes_of, file_of, kind_of, passes};
+ghost use Rattle.early_engine.specs.Steps.{IsPassed};
 
-use crate::column::feed_column;
+use crate::column::{feed_full, feed_rest};
+use crate::kind::{feeds_ahead, kind_of};
 use crate::layout::Layout;
-use flight_core::finalise;
+use crate::options::RunOptions;
+use crate::part::make_part;
+use crate::room::Room;
 use io_account::Counts;
-use lumos_base::{Edge, Fixed, Vertex};
+use lumos_base::{Edge, Vertex};
 use lumos_depot::{Depot, FileKind};
-use lumos_law::{Combine, VertexProgram};
+use lumos_law::VertexProgram;
+use lumos_report::Kind;
 use value_files::FileFault;
 
 // Why an iteration isn't made.
@@ -28,51 +36,33 @@ pub(crate) enum Stop {
     Over(Vertex),
 }
 
-// Tells that the value and the sum by which a vertex is over are in range. The values and sums are those of the vertices
-// from `first` on.
-fn see_over<G: VertexProgram>(
-    program: &G,
-    vertex: Vertex,
-    first: u32,
-    before: &[G::Value],
-    sums: &[G::Sum],
-)
-    requires low { first ≤ vertex.0 }
-    requires high { vertex.0 < first + length before.now }
-    requires sums_fit { length sums.now ≡ length before.now }
-    requires over { (x : G.Value) (s : G.Sum) → x ≡ slice_index_or before.now (vertex.0 - first) x → s ≡ slice_index_or sums.now (vertex.0 - first) s
-        → (G.model program.now).over vertex.0 x s ≡ true }
-    ensures { IsOver G.Value.is_in_range G.Sum.is_in_range (G.model program.now) vertex.0 }
-{
-    let index = (vertex.0 - first) as usize;
-    before[index].in_range();
-    sums[index].in_range();
-}
-
-// Makes the values after an iteration from those before it, with room for the edges of a block and for the sums of a
-// part, and counts the blocks and the values that moved. It stops at the first vertex that is over.
-pub(crate) fn iterate<G: VertexProgram, D: Depot>(
+// Makes the values after a full iteration of those before it, and counts its blocks and the values that moved. Where it
+// feeds ahead, it leaves the early sums of the next iteration. It stops at the first vertex that is over.
+fn full_iteration<G: VertexProgram, D: Depot>(
     program: &G,
     layout: &Layout,
+    ahead: bool,
     depot: &mut D,
     room: &mut [Edge],
     before: &[G::Value],
     sums: &mut [G::Sum],
+    early: &mut [G::Sum],
     after: &mut [G::Value],
 ) -> Result<Counts, Stop>
     requires attached { IsSome (D.attached depot.old) }
     requires laid { IsLaid layout.now.parts layout.now.table (length room.old) }
-    requires inside { IfSome (D.holds depot.old FileKind.Primary) (λ file. 12 * sum layout.now.table.counts ≤ length file) }
+    requires inside { HasBlocks layout.now.table (D.holds depot.old) }
     requires before_fits { length before.now ≡ layout.now.parts.vertices }
     requires after_fits { length after.old ≡ layout.now.parts.vertices }
     requires sums_fit { chunk_of layout.now.parts ≤ length sums.old }
+    requires early_fits { length early.old ≡ layout.now.parts.vertices }
     ensures made { (edges : List Edge) (t : ℕ) → IsOnGrid edges layout.now.parts layout.now.table (D.holds depot.old)
         → IsChunk (values (G.model program.now) edges t) 0 before.now
-        → MatchResult result (λ counts. IsMade (G.model program.now) edges layout.now.parts t after.new counts)
+        → MatchResult result (IsPassed (G.model program.now) edges layout.now.parts Kind.Full ahead t after.new early.new)
         (IsUnmade (G.model program.now) edges layout.now.parts t) }
     ensures taken { (edges : List Edge) → IsOnGrid edges layout.now.parts layout.now.table (D.holds depot.old)
         → OnOk result (RoseBy (D.taken depot.old FileKind.Primary) (D.taken depot.new FileKind.Primary)
-        (bytes_of edges (chunk_of layout.now.parts) (passes layout.now.parts.parts))) }
+        (bytes_of edges (chunk_of layout.now.parts) (passes Kind.Full layout.now.parts.parts))) }
     ensures over { IfErr result (StopIsOver G.Value.is_in_range G.Sum.is_in_range (G.model program.now)) }
     ensures damaged { IfErr result (StopShows layout.now.parts layout.now.table) }
     ensures reads { Reads D.holds D.taken D.stored D.faults D.attached FileKind.Primary depot.old depot.new }
@@ -84,23 +74,128 @@ pub(crate) fn iterate<G: VertexProgram, D: Depot>(
         let first = range.first as usize;
         let past = range.past as usize;
         let here = &mut sums[..past - first];
-        match feed_column(program, layout, depot, j, room, before, here, &mut counts) {
+        let next = &mut early[first..past];
+        match feed_full(
+            program,
+            layout,
+            ahead,
+            depot,
+            j,
+            room,
+            before,
+            after,
+            here,
+            next,
+            &mut counts,
+        ) {
             Ok(()) => {}
             Err(fault) => return Err(Stop::File(fault)),
         }
-        let end = finalise(
-            program,
-            range.first,
-            &before[first..past],
-            here,
-            &mut after[first..past],
-        );
-        let over = end.over;
-        if let Some(vertex) = over {
-            see_over(program, vertex, range.first, &before[first..past], here);
-            return Err(Stop::Over(vertex));
+        match make_part(program, layout, j, before, here, after) {
+            Ok(moved) => counts.add_moved(moved),
+            Err(vertex) => return Err(Stop::Over(vertex)),
         }
-        counts.add_moved(end.moved);
     }
     Ok(counts)
+}
+
+// Makes the values after a fed iteration of those before it and of the early sums, with which it goes on, and counts its
+// blocks and the values that moved. It stops at the first vertex that is over.
+fn fed_iteration<G: VertexProgram, D: Depot>(
+    program: &G,
+    layout: &Layout,
+    depot: &mut D,
+    room: &mut [Edge],
+    before: &[G::Value],
+    early: &mut [G::Sum],
+    after: &mut [G::Value],
+) -> Result<Counts, Stop>
+    requires attached { IsSome (D.attached depot.old) }
+    requires laid { IsLaid layout.now.parts layout.now.table (length room.old) }
+    requires inside { HasBlocks layout.now.table (D.holds depot.old) }
+    requires before_fits { length before.now ≡ layout.now.parts.vertices }
+    requires after_fits { length after.old ≡ layout.now.parts.vertices }
+    requires early_fits { length early.old ≡ layout.now.parts.vertices }
+    ensures made { (edges : List Edge) (t : ℕ) → IsOnGrid edges layout.now.parts layout.now.table (D.holds depot.old)
+        → IsChunk (values (G.model program.now) edges t) 0 before.now
+        → IsChunk (early_sum (G.model program.now) edges (chunk_of layout.now.parts) (values (G.model program.now) edges t)) 0 early.old
+        → MatchResult result (IsPassed (G.model program.now) edges layout.now.parts Kind.Fed false t after.new early.new)
+        (IsUnmade (G.model program.now) edges layout.now.parts t) }
+    ensures taken { (edges : List Edge) → IsOnGrid edges layout.now.parts layout.now.table (D.holds depot.old)
+        → OnOk result (RoseBy (D.taken depot.old FileKind.Secondary) (D.taken depot.new FileKind.Secondary)
+        (bytes_of edges (chunk_of layout.now.parts) (passes Kind.Fed layout.now.parts.parts))) }
+    ensures over { IfErr result (StopIsOver G.Value.is_in_range G.Sum.is_in_range (G.model program.now)) }
+    ensures damaged { IfErr result (StopShows layout.now.parts layout.now.table) }
+    ensures reads { Reads D.holds D.taken D.stored D.faults D.attached FileKind.Secondary depot.old depot.new }
+    ensures cause { result ≡ Err (Stop.File FileFault.Depot) → Rose (D.faults depot.old) (D.faults depot.new) }
+{
+    let mut counts = Counts::zero();
+    for j in 0..layout.parts.parts() {
+        let range = layout.parts.range_of(j);
+        let here = &mut early[range.first as usize..range.past as usize];
+        match feed_rest(program, layout, depot, j, room, before, here, &mut counts) {
+            Ok(()) => {}
+            Err(fault) => return Err(Stop::File(fault)),
+        }
+        match make_part(program, layout, j, before, here, after) {
+            Ok(moved) => counts.add_moved(moved),
+            Err(vertex) => return Err(Stop::Over(vertex)),
+        }
+    }
+    Ok(counts)
+}
+
+// Makes iteration t of a run: the values after it of those before it, and, where it feeds ahead, the early sums of the
+// next iteration. It counts its blocks and the values that moved, and stops at the first vertex that is over.
+pub(crate) fn iterate<G: VertexProgram, D: Depot>(
+    program: &G,
+    layout: &Layout,
+    options: RunOptions,
+    t: u32,
+    depot: &mut D,
+    room: &mut Room<G>,
+) -> Result<Counts, Stop>
+    requires attached { IsSome (D.attached depot.old) }
+    requires inside { HasBlocks layout.now.table (D.holds depot.old) }
+    requires some { 0 < t }
+    requires few { t ≤ options.iterations }
+    requires fits { IsRoomy layout.now.parts layout.now.table (vec_len room.old.before) (vec_len room.old.after) (vec_len room.old.sums) (vec_len room.old.early) (vec_len room.old.edges) }
+    ensures fits { IsRoomy layout.now.parts layout.now.table (vec_len room.new.before) (vec_len room.new.after) (vec_len room.new.sums) (vec_len room.new.early) (vec_len room.new.edges) }
+    ensures made { (edges : List Edge) (done : ℕ) → IsOnGrid edges layout.now.parts layout.now.table (D.holds depot.old)
+        → t ≡ done + 1 → IsKept (G.model program.now) edges layout.now.parts options.mode options.iterations done room.old.before.items room.old.early.items
+        → MatchResult result (λ counts. IsMade (G.model program.now) edges layout.now.parts options.mode options.iterations done room.new.after.items room.new.early.items counts)
+        (IsUnmade (G.model program.now) edges layout.now.parts done) }
+    ensures taken { (edges : List Edge) → IsOnGrid edges layout.now.parts layout.now.table (D.holds depot.old)
+        → OnOk result (RoseBy (D.taken depot.old (file_of (kind_of options.mode t))) (D.taken depot.new (file_of (kind_of options.mode t)))
+        (bytes_of edges (chunk_of layout.now.parts) (passes (kind_of options.mode t) layout.now.parts.parts))) }
+    ensures over { IfErr result (StopIsOver G.Value.is_in_range G.Sum.is_in_range (G.model program.now)) }
+    ensures damaged { IfErr result (StopShows layout.now.parts layout.now.table) }
+    ensures reads { Reads D.holds D.taken D.stored D.faults D.attached (file_of (kind_of options.mode t)) depot.old depot.new }
+    ensures cause { result ≡ Err (Stop.File FileFault.Depot) → Rose (D.faults depot.old) (D.faults depot.new) }
+{
+    match kind_of(options.mode, t) {
+        Kind::Full => {
+            let ahead = feeds_ahead(options.mode, options.iterations, t);
+            full_iteration(
+                program,
+                layout,
+                ahead,
+                depot,
+                &mut room.edges,
+                &room.before,
+                &mut room.sums,
+                &mut room.early,
+                &mut room.after,
+            )
+        }
+        Kind::Fed => fed_iteration(
+            program,
+            layout,
+            depot,
+            &mut room.edges,
+            &room.before,
+            &mut room.early,
+            &mut room.after,
+        ),
+    }
 }

@@ -11,7 +11,7 @@ ghost use Rattle.grid_format.specs.Heads.{IsHead};
 ghost use Rattle.grid_format.specs.Outside.{Holds, OnlyReads};
 ghost use Rattle.grid_format.specs.Tables.{count_at};
 ghost use Rattle.early_engine.specs.Engines.{IsRoomy, cut_in};
-ghost use Rattle.early_engine.specs.Grids.{IsOnGrid};
+ghost use Rattle.early_engine.specs.Grids.{HasBlocks, IsOnGrid};
 ghost use Rattle.early_engine.specs.Opens.{OpenShows, fault_opened};
 
 use crate::layout::Layout;
@@ -59,6 +59,17 @@ fn fault_opened(fault: TableFault) -> OpenFault
     }
 }
 
+// How the vertices of a grid with this head are cut.
+fn parts_of(info: GridInfo) -> Parts
+    requires head { IsHead info }
+    ensures { result ≡ cut_in info }
+{
+    match Parts::new(info.vertices, info.parts) {
+        Ok(parts) => parts,
+        Err(_) => unreachable!(),
+    }
+}
+
 // The lists of values and sums.
 fn make_lists<G: VertexProgram>(
     alloc: Global,
@@ -68,7 +79,7 @@ fn make_lists<G: VertexProgram>(
     ensures before { IfOk result (λ room. vec_len room.before ≡ parts.vertices) }
     ensures after { IfOk result (λ room. vec_len room.after ≡ parts.vertices) }
     ensures sums { IfOk result (λ room. vec_len room.sums ≡ chunk_of parts) }
-    ensures ahead { IfOk result (λ room. vec_len room.ahead ≡ chunk_of parts) }
+    ensures early { IfOk result (λ room. vec_len room.early ≡ parts.vertices) }
     ensures memory { IfErr result (λ fault. fault ≡ OpenFault.NoMemory) }
 {
     let value = program.init(Vertex(0), NO_INFO);
@@ -83,14 +94,14 @@ fn make_lists<G: VertexProgram>(
     let Ok(sums) = vec![in alloc; G::Sum::unit(); chunk] else {
         return Err(OpenFault::NoMemory);
     };
-    let Ok(ahead) = vec![in alloc; G::Sum::unit(); chunk] else {
+    let Ok(early) = vec![in alloc; G::Sum::unit(); vertices] else {
         return Err(OpenFault::NoMemory);
     };
     Ok(Room {
         before,
         after,
         sums,
-        ahead,
+        early,
         edges: Vec::new(alloc),
     })
 }
@@ -135,6 +146,7 @@ fn read_layout<D: Depot>(
     ensures parts { IfOk result (λ layout. layout.table.parts ≡ info.parts) }
     ensures blocks { IfOk result (λ layout. length layout.table.counts ≡ info.parts * info.parts) }
     ensures whole { IfOk result (λ layout. sum layout.table.counts ≡ info.edges) }
+    ensures blocks_fit { IfOk result (λ layout. HasBlocks layout.table (D.holds depot.new)) }
     ensures told { (edges : List Edge) → All IsEdge edges → HasGrid edges info.vertices info.parts → Holds (D.holds depot.old) (grid edges info.vertices info.parts)
         → IfOk result (λ layout. IsOnGrid edges (cut_in info) layout.table (D.holds depot.new)) }
     ensures head { (edges : List Edge) → HasGrid edges info.vertices info.parts → Holds (D.holds depot.old) (grid edges info.vertices info.parts)
@@ -162,17 +174,16 @@ pub(crate) fn open_parts<G: VertexProgram, D: Depot>(
     requires accepted { (files : GridFiles) → Holds (D.holds depot.old) files → head_of files ≡ Ok info }
     ensures cut { IfOk result (λ opened. opened.layout.parts ≡ cut_in info) }
     ensures whole { IfOk result (λ opened. sum opened.layout.table.counts ≡ info.edges) }
+    ensures blocks_fit { IfOk result (λ opened. HasBlocks opened.layout.table (D.holds depot.new)) }
     ensures fits { IfOk result (λ opened. IsRoomy opened.layout.parts opened.layout.table
-        (vec_len opened.room.before) (vec_len opened.room.after) (vec_len opened.room.sums) (vec_len opened.room.ahead) (vec_len opened.room.edges)) }
+        (vec_len opened.room.before) (vec_len opened.room.after) (vec_len opened.room.sums) (vec_len opened.room.early) (vec_len opened.room.edges)) }
     ensures told { (edges : List Edge) → All IsEdge edges → HasGrid edges info.vertices info.parts → Holds (D.holds depot.old) (grid edges info.vertices info.parts)
         → IfOk result (λ opened. IsOnGrid edges (cut_in info) opened.layout.table (D.holds depot.new) × (info ≡ grid_head edges info.vertices info.parts)) }
     ensures damaged { IfErr result (OpenShows info (D.holds depot.old FileKind.Meta)) }
     ensures depot { result ≡ Err OpenFault.Depot → Rose (D.faults depot.old) (D.faults depot.new) }
     ensures reads { OnlyReads D.holds D.taken D.stored D.faults D.attached depot.old depot.new }
 {
-    let Ok(parts) = Parts::new(info.vertices, info.parts) else {
-        unreachable!()
-    };
+    let parts = parts_of(info);
     let room = match make_lists(alloc, program, parts) {
         Ok(room) => room,
         Err(_) => return Err(OpenFault::NoMemory),

@@ -6,6 +6,9 @@ use lumos_report::Ending;
 /// How the iterations of a run go through the grid.
 #[derive(Clone, Copy, Debug, PartialEq, Eq, Drop)]
 pub enum Mode {
+    /// Each odd iteration feeds the next one too, from each block above the diagonal, whose sources are then final; and the
+    /// next one reads only the blocks on the diagonal and below it. The rule is our own.
+    Fed,
     /// Each iteration reads every block that has edges, as GridGraph's does.
     Plain,
 }

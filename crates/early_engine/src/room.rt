@@ -3,14 +3,13 @@
 use lumos_base::Edge;
 use lumos_law::VertexProgram;
 
-/// The values of all vertices before an iteration, room for those after it, for the sums of a part in it and in the one
-/// ahead, and for the edges of the longest block.
+/// The values of all vertices before an iteration, room for those after it and for the sums of a part, the early sums of
+/// all vertices, which an iteration that feeds ahead leaves for the next one, and room for the edges of the longest block.
 #[derive(Drop)]
 pub(crate) struct Room<G: VertexProgram> {
     pub(crate) before: Vec<G::Value>,
     pub(crate) after: Vec<G::Value>,
     pub(crate) sums: Vec<G::Sum>,
-    // Nothing is fed ahead yet.
-    pub(crate) ahead: Vec<G::Sum>,
+    pub(crate) early: Vec<G::Sum>,
     pub(crate) edges: Vec<Edge>,
 }

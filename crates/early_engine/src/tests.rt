@@ -13,12 +13,14 @@ use std::test::Fail;
 // Why a run isn't made.
 #[derive(Clone, Copy, Debug, PartialEq, Eq, Drop)]
 enum Fault {
+    // So many iterations can't be asked for.
+    Iterations(u32),
     Head(GridFault),
     Open(OpenFault),
     Run(RunFault),
 }
 
-// A grid by its numbers, the places of its blocks with one edge, and its other two files.
+// A grid by its numbers, the places of its blocks with one edge, and its other three files.
 #[derive(Clone, Copy, Drop)]
 struct Grid<'a> {
     parts: u8,
@@ -26,6 +28,7 @@ struct Grid<'a> {
     edges: u8,
     blocks: &'a [usize],
     primary: &'a [u8],
+    secondary: &'a [u8],
     info: &'a [u8],
 }
 
@@ -36,6 +39,7 @@ const LOOP: Grid<'static> = Grid {
     edges: 1,
     blocks: &[0],
     primary: &[0, 0, 0, 0, 0, 0, 0, 0, 1, 0, 0, 0],
+    secondary: &[0, 0, 0, 0, 0, 0, 0, 0, 1, 0, 0, 0],
     info: &[1, 0, 0, 0, 1, 0, 0, 0, 0, 0, 0, 0],
 };
 
@@ -48,9 +52,30 @@ const TWO: Grid<'static> = Grid {
     primary: &[
         3, 0, 0, 0, 1, 0, 0, 0, 1, 0, 0, 0, 0, 0, 0, 0, 4, 0, 0, 0, 1, 0, 0, 0,
     ],
+    secondary: &[3, 0, 0, 0, 1, 0, 0, 0, 1, 0, 0, 0],
     info: &[
         1, 0, 0, 0, 1, 0, 0, 0, 0, 0, 0, 0, 0, 0, 0, 0, 0, 0, 0, 0, 0, 0, 0, 0, 0, 0, 0, 0, 0, 0,
         0, 0, 0, 0, 0, 0, 1, 0, 0, 0, 1, 0, 0, 0, 0, 0, 0, 0, 0, 0, 0, 0, 0, 0, 0, 0, 0, 0, 0, 0,
+    ],
+};
+
+// The edges from 0 to 1 and to 2, from 2 to 1 and from 3 to 2: one in each block.
+const FOUR: Grid<'static> = Grid {
+    parts: 2,
+    vertices: 4,
+    edges: 4,
+    blocks: &[0, 1, 2, 3],
+    primary: &[
+        0, 0, 0, 0, 1, 0, 0, 0, 1, 0, 0, 0, 2, 0, 0, 0, 1, 0, 0, 0, 1, 0, 0, 0, 0, 0, 0, 0, 2, 0,
+        0, 0, 1, 0, 0, 0, 3, 0, 0, 0, 2, 0, 0, 0, 1, 0, 0, 0,
+    ],
+    secondary: &[
+        0, 0, 0, 0, 1, 0, 0, 0, 1, 0, 0, 0, 2, 0, 0, 0, 1, 0, 0, 0, 1, 0, 0, 0, 3, 0, 0, 0, 2, 0,
+        0, 0, 1, 0, 0, 0,
+    ],
+    info: &[
+        2, 0, 0, 0, 2, 0, 0, 0, 0, 0, 0, 0, 0, 0, 0, 0, 0, 0, 0, 0, 0, 0, 0, 0, 1, 0, 0, 0, 1, 0,
+        0, 0, 0, 0, 0, 0, 1, 0, 0, 0, 1, 0, 0, 0, 0, 0, 0, 0,
     ],
 };
 
@@ -61,6 +86,7 @@ const EMPTY: Grid<'static> = Grid {
     edges: 0,
     blocks: &[],
     primary: &[],
+    secondary: &[],
     info: &[],
 };
 
@@ -91,6 +117,7 @@ fn depot_of(alloc: Global, grid: &Grid, fails: &[u64]) -> Result<MemDepot, NoMem
     let mut depot = MemDepot::new(alloc, fails)?;
     depot.put_file(alloc, FileKind::Meta, &meta)?;
     depot.put_file(alloc, FileKind::Primary, grid.primary)?;
+    depot.put_file(alloc, FileKind::Secondary, grid.secondary)?;
     depot.put_file(alloc, FileKind::Info, grid.info)?;
     match depot.attach("grid") {
         Ok(()) => Ok(depot),
@@ -98,12 +125,12 @@ fn depot_of(alloc: Global, grid: &Grid, fails: &[u64]) -> Result<MemDepot, NoMem
     }
 }
 
-fn options_of(iterations: u32, show: Show) -> RunOptions
+fn options_of(iterations: u32, mode: Mode, show: Show) -> RunOptions
     ensures { result.iterations ≡ iterations }
 {
     RunOptions {
         iterations,
-        mode: Mode::Plain,
+        mode,
         show,
         budget: 1073741824,
     }
@@ -115,17 +142,20 @@ fn run_grid<D: Depot, O: Sink>(
     depot: &mut D,
     out: &mut O,
     iterations: u32,
+    mode: Mode,
     show: Show,
 ) -> Result<Ending, Fault>
-    requires attached { IsSome (D.attached depot.old) }
-    requires some { 1 ≤ iterations }
-    requires few { iterations ≤ 1000000 }
+    requires { IsSome (D.attached depot.old) }
 {
+    if iterations < 1 || iterations > 1000000 {
+        return Err(Fault::Iterations(iterations));
+    }
     let info = match read_head(depot) {
         Ok(info) => info,
         Err(fault) => return Err(Fault::Head(fault)),
     };
-    match Engine::open(alloc, depot, info, Components, options_of(iterations, show)) {
+    let options = options_of(iterations, mode, show);
+    match Engine::open(alloc, depot, info, Components, options) {
         Ok(engine) => match engine.run(depot, out) {
             Ok(ending) => Ok(ending),
             Err(fault) => Err(Fault::Run(fault)),
@@ -134,112 +164,154 @@ fn run_grid<D: Depot, O: Sink>(
     }
 }
 
-// A run: the grid, the calls of the depot that fail, the room of `out`, the iterations, and what is shown; what it answers
-// and writes, and the bytes that it takes of Info and of Primary.
+// A run: the grid, the calls of the depot that fail, the room of `out`, the iterations, the mode, and what is shown; what it
+// answers and writes, and the bytes that it takes of Info, of Primary and of Secondary.
 #[derive(Clone, Copy, Drop)]
 struct Row<'a> {
     grid: Grid<'a>,
     fails: &'a [u64],
     room: usize,
     iterations: u32,
+    mode: Mode,
     show: Show,
     answer: Result<Ending, Fault>,
     text: &'a str,
-    taken: (u64, u64),
+    taken: (u64, u64, u64),
 }
 
-const ROWS: [Row; 6] = [
+const ROWS: [Row; 7] = [
     Row {
         grid: EMPTY,
         fails: &[],
         room: 1000,
         iterations: 10,
+        mode: Mode::Plain,
         show: Show::All,
         answer: Ok(Ending {
             iterations: 1,
             why: Why::Still,
         }),
         text: "lumos components vertices 0 edges 0 parts 4\niteration 0\niteration 1 full primary 0 secondary 0 skipped 0 empty 16 moved 0\nstill 1\n",
-        taken: (0, 0),
+        taken: (0, 0, 0),
     },
     Row {
         grid: LOOP,
         fails: &[],
         room: 1000,
         iterations: 10,
+        mode: Mode::Plain,
         show: Show::All,
         answer: Ok(Ending {
             iterations: 1,
             why: Why::Still,
         }),
         text: "lumos components vertices 1 edges 1 parts 8\niteration 0\n0 0\niteration 1 full primary 1 secondary 0 skipped 0 empty 63 moved 0\n0 0\nstill 1\n",
-        taken: (12, 12),
+        taken: (12, 12, 0),
     },
     Row {
         grid: TWO,
         fails: &[],
         room: 1000,
         iterations: 10,
+        mode: Mode::Plain,
         show: Show::All,
         answer: Ok(Ending {
             iterations: 2,
             why: Why::Still,
         }),
         text: "lumos components vertices 5 edges 2 parts 2\niteration 0\n0 0\n1 1\n2 2\n3 3\n4 4\niteration 1 full primary 2 secondary 0 skipped 0 empty 2 moved 1\n0 0\n1 1\n2 2\n3 3\n4 0\niteration 2 full primary 2 secondary 0 skipped 0 empty 2 moved 0\n0 0\n1 1\n2 2\n3 3\n4 0\nstill 2\n",
-        taken: (60, 48),
+        taken: (60, 48, 0),
     },
     Row {
         grid: TWO,
         fails: &[],
         room: 1000,
         iterations: 1,
+        mode: Mode::Plain,
         show: Show::Brief,
         answer: Ok(Ending {
             iterations: 1,
             why: Why::Limit,
         }),
         text: "lumos components vertices 5 edges 2 parts 2\niteration 0\niteration 1 full primary 2 secondary 0 skipped 0 empty 2 moved 1\nlimit 1\n",
-        taken: (60, 24),
+        taken: (60, 24, 0),
     },
     Row {
         grid: TWO,
         fails: &[13],
         room: 1000,
         iterations: 10,
+        mode: Mode::Plain,
         show: Show::Brief,
         answer: Err(Fault::Run(RunFault::Depot)),
         text: "lumos components vertices 5 edges 2 parts 2\niteration 0\n",
-        taken: (60, 0),
+        taken: (60, 0, 0),
     },
     Row {
         grid: TWO,
         fails: &[],
         room: 10,
         iterations: 10,
+        mode: Mode::Plain,
         show: Show::All,
         answer: Err(Fault::Run(RunFault::Out)),
         text: "lumos comp",
-        taken: (60, 0),
+        taken: (60, 0, 0),
+    },
+    Row {
+        grid: FOUR,
+        fails: &[],
+        room: 1000,
+        iterations: 5,
+        mode: Mode::Fed,
+        show: Show::All,
+        answer: Ok(Ending {
+            iterations: 2,
+            why: Why::Still,
+        }),
+        text: "lumos components vertices 4 edges 4 parts 2\niteration 0\n0 0\n1 1\n2 2\n3 3\niteration 1 full primary 4 secondary 0 skipped 0 empty 0 moved 2\n0 0\n1 0\n2 0\n3 3\niteration 2 fed primary 0 secondary 3 skipped 0 empty 0 moved 0\n0 0\n1 0\n2 0\n3 3\nstill 2\n",
+        taken: (48, 48, 36),
     },
 ];
+
+// Makes a run over a directory of its own, and gives that and what was written too.
+fn run_row(
+    alloc: Global,
+    row: &Row,
+) -> Result<(Result<Ending, Fault>, MemDepot, MemSink), NoMemory> {
+    let Ok(mut depot) = depot_of(alloc, &row.grid, row.fails) else {
+        return Err(NoMemory);
+    };
+    let Ok(mut out) = MemSink::new(alloc, row.room, &[]) else {
+        return Err(NoMemory);
+    };
+    let answer = run_grid(
+        alloc,
+        &mut depot,
+        &mut out,
+        row.iterations,
+        row.mode,
+        row.show,
+    );
+    Ok((answer, depot, out))
+}
 
 #[test]
 fn runs_report_what_moved_and_take_each_block_once(rt: HostRuntime) -> Result<(), Fail> {
     for row in &ROWS {
-        let mut depot = depot_of(rt.alloc(), &row.grid, row.fails)
-            .ok()
-            .expect(&rt, "memory");
-        let mut out = MemSink::new(rt.alloc(), row.room, &[])
-            .ok()
-            .expect(&rt, "memory");
-        assert!(rt; row.iterations >= 1 && row.iterations <= 1000000);
-        let answer = run_grid(rt.alloc(), &mut depot, &mut out, row.iterations, row.show);
+        let (answer, depot, out) = run_row(rt.alloc(), row).ok().expect(&rt, "memory");
         assert_eq!(rt; answer, row.answer, "{}", row.text);
         assert_eq!(rt; out.bytes(), row.text.as_bytes(), "{}", row.text);
         assert_eq!(rt; depot.taken_of(FileKind::Info), row.taken.0, "{}", row.text);
         assert_eq!(rt;
             depot.taken_of(FileKind::Primary),
             row.taken.1,
+            "{}",
+            row.text
+        );
+        assert_eq!(rt;
+            depot.taken_of(FileKind::Secondary),
+            row.taken.2,
             "{}",
             row.text
         );
@@ -258,7 +330,13 @@ fn make_two<D: Depot, O: Sink>(alloc: Global, depot: &mut D, out: &mut O) -> Res
         Ok(info) => info,
         Err(fault) => return Err(Fault::Head(fault)),
     };
-    let mut engine = match Engine::open(alloc, depot, info, Components, options_of(10, Show::All)) {
+    let mut engine = match Engine::open(
+        alloc,
+        depot,
+        info,
+        Components,
+        options_of(10, Mode::Plain, Show::All),
+    ) {
         Ok(engine) => engine,
         Err(fault) => return Err(Fault::Open(fault)),
     };
@@ -292,7 +370,7 @@ fn an_engine_goes_on_until_nothing_moves(rt: HostRuntime) -> Result<(), Fail> {
     assert_eq!(rt;
         make_two(rt.alloc(), &mut depot, &mut out),
         Ok((
-            138,
+            154,
             Phase::Fresh,
             Phase::Going,
             Phase::Stopped,

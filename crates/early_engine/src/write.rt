@@ -4,7 +4,6 @@ ghost use Rattle.lumos_depot.specs.Causes.{HasCause};
 ghost use Rattle.lumos_depot.specs.Streams.{Writes};
 ghost use Rattle.lumos_law.specs.Sync.{IsChunk};
 ghost use Rattle.lumos_report.specs.Report.{counts_line, head_line, zero_line};
-ghost use Rattle.lumos_report.specs.declared.records.Kind.{Kind};
 ghost use Rattle.early_engine.specs.declared.options.Show.{Show};
 ghost use Rattle.early_engine.specs.Report.{WritesTurn, shown_lines, turn_line, turn_of};
 
@@ -98,22 +97,23 @@ pub(crate) fn write_first<G: VertexProgram, O: Sink>(
     }
 }
 
-// Writes the lines of an iteration.
+// Writes the lines of an iteration of this kind.
 fn write_iteration<G: VertexProgram, O: Sink>(
     out: &mut O,
     program: &G,
     show: Show,
     t: u32,
+    kind: Kind,
     counts: &Counts,
     values: &[G::Value],
 ) -> Result<(), Failed>
     requires { length values.now ≤ 268435456 }
     ensures bytes { (state : ℕ → G.Value) → IsChunk state 0 values.now
         → Writes (O.written out.old) (O.written out.new) result
-        (counts_line t Kind.Full counts.now ++ shown_lines (G.model program.now) show state (length values.now)) }
+        (counts_line t kind counts.now ++ shown_lines (G.model program.now) show state (length values.now)) }
     ensures cause { HasCause (O.faults out.old) (O.faults out.new) result }
 {
-    match write_counts(out, t, Kind::Full, counts) {
+    match write_counts(out, t, kind, counts) {
         Ok(()) => write_shown(out, program, show, values),
         Err(_) => Err(Failed),
     }
@@ -149,23 +149,24 @@ fn write_close<O: Sink>(out: &mut O, turn: Turn) -> Result<(), Failed>
     }
 }
 
-// Writes the lines of iteration t, and the last line where the run ends with it.
+// Writes the lines of iteration t, which is of this kind, and the last line where the run ends with it.
 pub(crate) fn write_turn<G: VertexProgram, O: Sink>(
     out: &mut O,
     program: &G,
     options: RunOptions,
     t: u32,
+    kind: Kind,
     counts: &Counts,
     values: &[G::Value],
 ) -> Result<Turn, Failed>
     requires { length values.now ≤ 268435456 }
     ensures bytes { (state : ℕ → G.Value) → IsChunk state 0 values.now
         → WritesTurn (turn_of t options.iterations counts.now.moved) (O.written out.old) (O.written out.new)
-        ((counts_line t Kind.Full counts.now ++ shown_lines (G.model program.now) options.show state (length values.now)) ++ turn_line (turn_of t options.iterations counts.now.moved)) result }
+        ((counts_line t kind counts.now ++ shown_lines (G.model program.now) options.show state (length values.now)) ++ turn_line (turn_of t options.iterations counts.now.moved)) result }
     ensures turn { IfOk result (λ turn. turn ≡ turn_of t options.iterations counts.now.moved) }
     ensures cause { HasCause (O.faults out.old) (O.faults out.new) result }
 {
-    match write_iteration(out, program, options.show, t, counts, values) {
+    match write_iteration(out, program, options.show, t, kind, counts, values) {
         Ok(()) => {}
         Err(_) => return Err(Failed),
     }

@@ -141,10 +141,9 @@ module _ {D : Type 0} (h : D → FileKind → Option (List ℕ)) (t s : D → Fi
     attached = m.attached;
     values = m.contents Values (λ same. absurd (cc));
     sums = m.contents Sums (λ same. absurd (cc));
-    taken = m.taken;
+    taken = λ kind apart other. m.taken kind apart;
     values_stored = m.stored Values (λ same. absurd (cc));
     sums_stored = m.stored Sums (λ same. absurd (cc));
-    secondary_stored = m.stored Secondary (λ same. absurd (cc));
     later = m.later;
   }
 
@@ -156,10 +155,9 @@ module _ {D : Type 0} (h : D → FileKind → Option (List ℕ)) (t s : D → Fi
         attached = k.attached ∙ m.attached;
         values = k.values ∙ m.values;
         sums = k.sums ∙ m.sums;
-        taken = λ kind apart. k.taken kind apart ∙ m.taken kind apart;
+        taken = λ kind apart other. k.taken kind apart other ∙ m.taken kind apart other;
         values_stored = k.values_stored ∙ m.values_stored;
         sums_stored = k.sums_stored ∙ m.sums_stored;
-        secondary_stored = k.secondary_stored ∙ m.secondary_stored;
         later = omega arith;
       }
 

@@ -1,7 +1,9 @@
 pub mod Building
+pub mod CopyLemmas
 pub mod CountLemmas
 pub mod EdgeBytes
 pub mod InfoBytes
+pub mod LowLemmas
 pub mod Moving
 pub mod NumberLemmas
 pub mod PassLemmas

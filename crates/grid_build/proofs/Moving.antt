@@ -92,3 +92,7 @@ rose_then x y z m n first second low =
 -- a transfer raised a counter
 pub raised_rose : (x y n : ℕ) → y ≡ raised x n → RoseBy x y n
 raised_rose x y n is low = omega arith
+
+-- the same between counters that are as these
+pub rose_as : (x y u v n : ℕ) → u ≡ x → v ≡ y → RoseBy x y n → RoseBy u v n
+rose_as x y u v n first last rose = rw (first, last) rose

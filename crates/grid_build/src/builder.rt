@@ -8,10 +8,13 @@ ghost use Rattle.partition.specs.Parts.{chunk_of};
 ghost use Rattle.grid_format.specs.Grid.{grid};
 ghost use Rattle.grid_format.specs.Heads.{IsHead, meta_bytes};
 ghost use Rattle.grid_build.specs.Built.{HasBuilt, HasFiles, StoresGrid, fault_of, parts_of};
+ghost use Rattle.grid_build.specs.Copied.{CopiesAll, low_total_of};
 ghost use Rattle.grid_build.specs.Outside.{LeavesRuns, RoseBy};
 ghost use Rattle.grid_build.specs.Passes.{IsSpool};
-ghost use Rattle.grid_build.specs.Steps.{AreEmpty, AreFilled, AreSized, IsCounted, IsListed};
+ghost use Rattle.grid_build.specs.Steps.{AreFilled, AreSized, IsCounted, IsListed};
 
+use crate::columns::low_total;
+use crate::copying::copy_low;
 use crate::counts::count_blocks;
 use crate::sorting::distribute;
 use crate::spool::spool_list;
@@ -29,6 +32,7 @@ fn size_file<D: Depot>(depot: &mut D, kind: FileKind, size: u64) -> Result<(), D
     requires no_sums { kind ≢ FileKind.Sums }
     ensures size { OnOk result (IfSome (D.holds depot.new kind) (λ file. length file ≡ size)) }
     ensures contents { SameBut kind (D.holds depot.old) (D.holds depot.new) }
+    ensures taken { Same (D.taken depot.old) (D.taken depot.new) }
     ensures stored { Same (D.stored depot.old) (D.stored depot.new) }
     ensures leaves { LeavesRuns D.holds D.taken D.stored D.faults D.attached depot.old depot.new }
     ensures cause { HasDepotCause (D.faults depot.old) (D.faults depot.new) result }
@@ -36,19 +40,26 @@ fn size_file<D: Depot>(depot: &mut D, kind: FileKind, size: u64) -> Result<(), D
     depot.resize(kind, size)
 }
 
-// Gives Primary, Secondary and Info the lengths for so many vertices and edges.
-fn size_files<D: Depot>(depot: &mut D, vertices: u32, count: u64) -> Result<(), DepotFault>
+// Gives Primary, Secondary and Info the lengths for so many vertices, edges, and edges on the diagonal and below it.
+fn size_files<D: Depot>(
+    depot: &mut D,
+    vertices: u32,
+    count: u64,
+    low: u64,
+) -> Result<(), DepotFault>
     requires attached { IsSome (D.attached depot.old) }
     requires few { count ≤ 2147483648 }
+    requires fewer { low ≤ count }
     requires empty { IfSome (D.holds depot.old FileKind.Meta) (λ file. file ≡ []) }
-    ensures sized { OnOk result (AreSized vertices count (D.holds depot.new)) }
+    ensures sized { OnOk result (AreSized vertices count low (D.holds depot.new)) }
     ensures spool { D.holds depot.new FileKind.Spool ≡ D.holds depot.old FileKind.Spool }
+    ensures taken { Same (D.taken depot.old) (D.taken depot.new) }
     ensures stored { Same (D.stored depot.old) (D.stored depot.new) }
     ensures leaves { LeavesRuns D.holds D.taken D.stored D.faults D.attached depot.old depot.new }
     ensures cause { HasDepotCause (D.faults depot.old) (D.faults depot.new) result }
 {
     size_file(depot, FileKind::Primary, 12 * count)?;
-    size_file(depot, FileKind::Secondary, 0)?;
+    size_file(depot, FileKind::Secondary, 12 * low)?;
     size_file(depot, FileKind::Info, 12 * u64::from(vertices))
 }
 
@@ -64,19 +75,21 @@ fn prepare<D: Depot>(
     requires some { 0 < count → 0 < parts.vertices }
     requires spool { IfSome (D.holds depot.old FileKind.Spool) (λ file. length file ≡ 12 * count) }
     ensures counts { IfOk result (λ counts. IsCounted parts count (D.holds depot.old FileKind.Spool) counts.items) }
-    ensures sized { IfOk result (λ _. AreSized parts.vertices count (D.holds depot.new)) }
+    ensures sized { IfOk result (λ counts. AreSized parts.vertices count (low_total_of parts counts.items) (D.holds depot.new)) }
     ensures spool { D.holds depot.new FileKind.Spool ≡ D.holds depot.old FileKind.Spool }
+    ensures taken { SameBut FileKind.Spool (D.taken depot.old) (D.taken depot.new) }
     ensures stored { Same (D.stored depot.old) (D.stored depot.new) }
     ensures leaves { LeavesRuns D.holds D.taken D.stored D.faults D.attached depot.old depot.new }
     ensures cause { HasDepotCause (D.faults depot.old) (D.faults depot.new) result }
 {
     size_file(depot, FileKind::Meta, 0)?;
     let counts = count_blocks(alloc, depot, parts, count)?;
-    size_files(depot, parts.vertices(), count)?;
+    let low = low_total(parts, &counts);
+    size_files(depot, parts.vertices(), count, low)?;
     Ok(counts)
 }
 
-// Writes Primary and Info, which have their lengths, from the edges in Spool.
+// Writes Primary, Secondary and Info, which have their lengths, from the edges in Spool.
 fn fill<D: Depot>(
     alloc: Global,
     depot: &mut D,
@@ -89,16 +102,18 @@ fn fill<D: Depot>(
     requires some { 0 < count → 0 < parts.vertices }
     requires spool { IfSome (D.holds depot.old FileKind.Spool) (λ file. IsListed parts.vertices count (Some file)) }
     requires counts { IsCounted parts count (D.holds depot.old FileKind.Spool) counts.now }
-    requires sized { AreSized parts.vertices count (D.holds depot.old) }
+    requires sized { AreSized parts.vertices count (low_total_of parts counts.now) (D.holds depot.old) }
     ensures filled { OnOk result ((list : List Edge) → IsSpool parts.vertices (D.holds depot.old FileKind.Spool) list → length list ≡ count
         → AreFilled parts list (D.holds depot.new)) }
-    ensures empty { OnOk result (AreEmpty (D.holds depot.new)) }
+    ensures empty { OnOk result (IfSome (D.holds depot.new FileKind.Meta) (λ file. file ≡ [])) }
     ensures spool { D.stored depot.new FileKind.Spool ≡ D.stored depot.old FileKind.Spool }
     ensures stored { OnOk result (RoseBy (D.stored depot.old FileKind.Primary) (D.stored depot.new FileKind.Primary) (12 * count)) }
+    ensures copied { OnOk result (CopiesAll (D.taken depot.old) (D.taken depot.new) (D.stored depot.old) (D.stored depot.new) (D.holds depot.new FileKind.Secondary)) }
     ensures leaves { LeavesRuns D.holds D.taken D.stored D.faults D.attached depot.old depot.new }
     ensures cause { HasDepotCause (D.faults depot.old) (D.faults depot.new) result }
 {
     distribute(alloc, depot, parts, count, counts)?;
+    copy_low(depot, parts, counts)?;
     write_info(alloc, depot, parts.vertices(), count)
 }
 
@@ -114,6 +129,7 @@ fn complete<D: Depot>(depot: &mut D, info: GridInfo, counts: &[u64]) -> Result<(
     ensures primary { D.holds depot.new FileKind.Primary ≡ D.holds depot.old FileKind.Primary }
     ensures secondary { D.holds depot.new FileKind.Secondary ≡ D.holds depot.old FileKind.Secondary }
     ensures info { D.holds depot.new FileKind.Info ≡ D.holds depot.old FileKind.Info }
+    ensures taken { Same (D.taken depot.old) (D.taken depot.new) }
     ensures stored { SameBut FileKind.Meta (D.stored depot.old) (D.stored depot.new) }
     ensures leaves { LeavesRuns D.holds D.taken D.stored D.faults D.attached depot.old depot.new }
     ensures cause { HasDepotCause (D.faults depot.old) (D.faults depot.new) result }
@@ -138,6 +154,7 @@ fn write_grid<D: Depot>(
         → HasFiles (grid list parts.vertices parts.parts) (D.holds depot.old) (D.holds depot.new)) }
     ensures spool { D.stored depot.new FileKind.Spool ≡ D.stored depot.old FileKind.Spool }
     ensures stored { IfOk result (λ _. RoseBy (D.stored depot.old FileKind.Primary) (D.stored depot.new FileKind.Primary) (12 * count)) }
+    ensures copied { IfOk result (λ _. CopiesAll (D.taken depot.old) (D.taken depot.new) (D.stored depot.old) (D.stored depot.new) (D.holds depot.new FileKind.Secondary)) }
     ensures leaves { LeavesRuns D.holds D.taken D.stored D.faults D.attached depot.old depot.new }
     ensures cause { HasDepotCause (D.faults depot.old) (D.faults depot.new) result }
 {
@@ -190,8 +207,9 @@ fn depot_fault(fault: DepotFault) -> BuildFault
 /// are our own.
 ///
 /// The list goes into Spool in the order of the input, to its end; then Meta is cut to length 0, the blocks are counted,
-/// the other files get their lengths, the edges are sorted into their blocks, what leads out of each vertex is tallied,
-/// Spool is emptied, and Meta is written, its first eight bytes last.
+/// the other files get their lengths, the edges are sorted into their blocks in Primary, the blocks on the diagonal and
+/// below it are copied into Secondary, what leads out of each vertex is tallied, Spool is emptied, and Meta is written,
+/// its first eight bytes last. The copy is the only reading of Primary: each byte of Secondary is taken from there once.
 ///
 /// - `Input`, `TooManyEdges`, `InputTooLong`: exactly where the text has that fault. The grid that was there stays.
 /// - `Read`: only where the source's count of faults rose. The grid that was there stays.
@@ -200,7 +218,7 @@ fn depot_fault(fault: DepotFault) -> BuildFault
 /// - `BudgetTooSmall` never comes, since the parts are stated.
 ///
 /// Over a depot that tells nothing the grid is that of the edges that were read back; an end that isn't among the
-/// vertices counts as the last of them.
+/// vertices counts as the last of them. The copy goes by the blocks that were counted, and stays inside both files.
 pub fn build<I: Source, D: Depot>(
     alloc: Global,
     input: &mut I,
@@ -217,6 +235,9 @@ pub fn build<I: Source, D: Depot>(
     ensures grid { HasBuilt options.now.limits (parts_of options.now.parts) (I.left input.old) (I.left input.new) (D.holds depot.old) (D.holds depot.new) result }
     ensures limits { IfOk result IsHead }
     ensures stored { IfOk result (λ info. StoresGrid info.edges (D.stored depot.old) (D.stored depot.new)) }
+    ensures copied { OnOk result (IfSome (D.holds depot.new FileKind.Secondary) (λ file.
+        RoseBy (D.taken depot.old FileKind.Primary) (D.taken depot.new FileKind.Primary) (length file)
+        × RoseBy (D.stored depot.old FileKind.Secondary) (D.stored depot.new FileKind.Secondary) (length file))) }
     ensures leaves { LeavesRuns D.holds D.taken D.stored D.faults D.attached depot.old depot.new }
     ensures later { I.faults input.old ≤ I.faults input.new }
     ensures read { result ≡ Err BuildFault.Read → Rose (I.faults input.old) (I.faults input.new) }

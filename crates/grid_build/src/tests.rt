@@ -66,7 +66,10 @@ fn a_grid_has_its_bytes(rt: HostRuntime) -> Result<(), Fail> {
         depot.file(FileKind::Primary),
         b"\x03\0\0\0\x01\0\0\0\x01\0\0\0\0\0\0\0\x04\0\0\0\x01\0\0\0".as_slice()
     );
-    assert_eq!(rt; depot.file(FileKind::Secondary), b"".as_slice());
+    assert_eq!(rt;
+        depot.file(FileKind::Secondary),
+        b"\x03\0\0\0\x01\0\0\0\x01\0\0\0".as_slice()
+    );
     assert_eq!(rt;
         depot.file(FileKind::Info),
         b"\x01\0\0\0\x01\0\0\0\0\0\0\0\0\0\0\0\0\0\0\0\0\0\0\0\0\0\0\0\0\0\0\0\0\0\0\0\x01\0\0\0\x01\0\0\0\0\0\0\0\0\0\0\0\0\0\0\0\0\0\0\0".as_slice()
@@ -74,7 +77,8 @@ fn a_grid_has_its_bytes(rt: HostRuntime) -> Result<(), Fail> {
     assert_eq!(rt; depot.file(FileKind::Spool), b"".as_slice());
     assert_eq!(rt; depot.stored_of(FileKind::Spool), 24);
     assert_eq!(rt; depot.stored_of(FileKind::Primary), 24);
-    assert_eq!(rt; depot.taken_of(FileKind::Primary), 0);
+    assert_eq!(rt; depot.taken_of(FileKind::Primary), 12);
+    assert_eq!(rt; depot.stored_of(FileKind::Secondary), 12);
     Ok(())
 }
 

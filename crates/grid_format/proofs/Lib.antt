@@ -3,6 +3,9 @@ pub mod Answering
 pub mod BlockPlaces
 pub mod GridBlocks
 pub mod HeadLemmas
+pub mod LowBlocks
 pub mod MetaLemmas
 pub mod NumberLemmas
+pub mod RangeLemmas
+pub mod TableLemmas
 pub mod WriteLemmas

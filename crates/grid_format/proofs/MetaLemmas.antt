@@ -10,8 +10,9 @@ use Rattle.byteorder.specs.Numbers.{little_number-reads_back}
 use lib.Pointwise.{pointwise}
 use Rattle.lumos_depot.specs.declared.depot.FileKind.{FileKind}
 use Rattle.lumos_depot.specs.declared.depot.FileKind.TheVariants.{Meta, Primary, Secondary, Info}
-use Rattle.grid_format.specs.Checks.{GridFiles, ◌>>=◌, added, counted, fields_of, head_of, judged, reached, sized}
+use Rattle.grid_format.specs.Checks.{GridFiles, ◌>>=◌, added, counted, fields_of, head_of, judged, reached, sized, table_of}
 use Rattle.grid_format.specs.Heads.{IsHead, counts_of, field, head_at, head_fields, magic, meta_bytes, meta_length, number_at, numbers}
+use Rattle.grid_format.specs.Tables.{low_edges}
 use Rattle.grid_format.specs.declared.head.GridInfo.{GridInfo}
 use Rattle.grid_format.proofs.NumberLemmas.{length-magic}
 use Rattle.grid_format.proofs.WriteLemmas.{length-field, length-fields, length-head}
@@ -133,6 +134,6 @@ fields_read info counts h =
     long_enough n k = grind (arith, nat_tests)
 
 -- files that pass each check of the head pass all
-pub head_whole : (files : GridFiles) (info : GridInfo) → fields_of files.meta ≡ Ok info → length files.meta ≡ meta_length info.parts → counted info.edges (counts_of info.parts files.meta) ≡ Ok tt → length files.primary ≡ 12 * info.edges → length files.secondary ≡ 0 → length files.info ≡ 12 * info.vertices → head_of files ≡ Ok info
+pub head_whole : (files : GridFiles) (info : GridInfo) → fields_of files.meta ≡ Ok info → length files.meta ≡ meta_length info.parts → counted info.edges (counts_of info.parts files.meta) ≡ Ok tt → length files.primary ≡ 12 * info.edges → length files.secondary ≡ 12 * low_edges (table_of info.parts files.meta) info.parts → length files.info ≡ 12 * info.vertices → head_of files ≡ Ok info
 head_whole files info fields long counts primary secondary infos =
-    rw (fields, sized_same Meta (meta_length info.parts) (length files.meta) long, counts, sized_same Primary (12 * info.edges) (length files.primary) primary, sized_same Secondary 0 (length files.secondary) secondary, sized_same Info (12 * info.vertices) (length files.info) infos) refl
+    rw (fields, sized_same Meta (meta_length info.parts) (length files.meta) long, counts, sized_same Primary (12 * info.edges) (length files.primary) primary, sized_same Secondary (12 * low_edges (table_of info.parts files.meta) info.parts) (length files.secondary) secondary, sized_same Info (12 * info.vertices) (length files.info) infos) refl

@@ -1,10 +1,10 @@
 -- Numbers read from a range of a file, and counts added up piece by piece.
 use Rattle.std.proofs.Common.{◌≡◌, ℕ, zero, suc, ◌+◌, ◌-◌, ◌*◌, ◌<◌, ◌≤◌, ◌&&◌, Bool, true, false, nat_eq, nat_lt, List, [], ◌∷◌, ◌++◌, length, take, drop, sum, Ok, Err, refl, sym, ap, ap₂, ◌∙◌, arith, if◌then◌else◌}
 use Rattle.std.specs.List.{starts_with}
-use Rattle.std.proofs.lemmas.List.Sums.{sum_by-cons}
+use Rattle.std.proofs.lemmas.List.Sums.{sum_by-append, sum_by-cons}
 use Rattle.std.proofs.Math.Nat.{add-mul}
 use Rattle.std.proofs.lemmas.Nat.{mul-le}
-use Rattle.std.proofs.lemmas.List.{drop-drop, drop-take, take-take, take_all}
+use Rattle.std.proofs.lemmas.List.{drop-drop, drop-take, take-take, take_all, take_at}
 use Rattle.std.proofs.lemmas.Bool.Decides.{nat_tests}
 use lib.Pointwise.{pointwise}
 use Rattle.byteorder.specs.Endian.{little_number}
@@ -50,6 +50,21 @@ numbers-add place (suc n) m file =
     let b : place + 8 + 8 * n ≡ place + 8 * suc n = omega arith in
     ap (λ (k : ℕ). numbers place k file) a
     ∙ ap (λ l. number_at 8 place file ∷ l) (numbers-add (place + 8) n m file ∙ ap (λ (p : ℕ). numbers (place + 8) n file ++ numbers p m file) b)
+
+-- a front of a row
+pub numbers-take : (place n m : ℕ) (file : List ℕ) → n ≤ m → take n (numbers place m file) ≡ numbers place n file
+numbers-take place n m file h =
+    let cut : m ≡ n + (m - n) = omega arith in
+    ap (λ (k : ℕ). take n (numbers place k file)) cut ∙ ap (take n) (numbers-add place n (m - n) file)
+    ∙ take_at (numbers place n file) (numbers (place + 8 * n) (m - n) file) n (length-numbers place n file)
+
+-- no rest of a row has a greater sum
+pub sum-numbers-rest : (n k : ℕ) (bytes : List ℕ) → k ≤ n → sum (numbers (8 * k) (n - k) bytes) ≤ sum (numbers 0 n bytes)
+sum-numbers-rest n k bytes h =
+    let cut : n ≡ k + (n - k) = omega arith in
+    let place : 0 + 8 * k ≡ 8 * k = omega arith in
+    let whole = ap sum (ap (λ (m : ℕ). numbers 0 m bytes) cut ∙ numbers-add 0 k (n - k) bytes) in
+    omega (arith, whole, ap (λ (q : ℕ). sum (numbers q (n - k) bytes)) place, sum_by-append (λ x. x) (numbers 0 k bytes) (numbers (0 + 8 * k) (n - k) bytes))
 
 -- one number of a row
 pub numbers_step : (n i : ℕ) (bytes : List ℕ) → i < n → numbers (8 * i) (n - i) bytes ≡ number_at 8 (8 * i) bytes ∷ numbers (8 * (i + 1)) (n - (i + 1)) bytes

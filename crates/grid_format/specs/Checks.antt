@@ -4,6 +4,7 @@ use Rattle.std.specs.List.{starts_with}
 use Rattle.lumos_depot.specs.declared.depot.FileKind.{FileKind}
 use Rattle.lumos_depot.specs.declared.depot.FileKind.TheVariants.{Meta, Primary, Secondary, Info}
 use Rattle.grid_format.specs.Heads.{counts_of, head_at, magic, meta_length, number_at}
+use Rattle.grid_format.specs.Tables.{BlockCounts, low_edges}
 use Rattle.grid_format.specs.declared.head.GridInfo.{GridInfo}
 use Rattle.grid_format.specs.declared.head.GridFault.{GridFault}
 use Rattle.grid_format.specs.declared.head.GridFault.TheVariants.{NotAGrid, WrongVersion, BadLength, BadMeta}
@@ -63,11 +64,15 @@ abbrev pub in_meta : {A : Type 0} → Result A Mismatch → Result A GridFault
 in_meta (Ok x) = Ok x
 in_meta (Err mismatch) = Err (BadMeta mismatch.place mismatch.found)
 
+-- how many edges the blocks have, as a Meta of p parts says
+abbrev pub table_of : ℕ → List ℕ → BlockCounts
+table_of p meta = record { parts = p; counts = counts_of p meta }
+
 -- the lengths of the other files, behind a head
 abbrev pub files_sized : GridInfo → GridFiles → Result (Unit {0}) GridFault
 files_sized info files = do
   _ ← sized Primary (12 * info.edges) (length files.primary)
-  _ ← sized Secondary 0 (length files.secondary)
+  _ ← sized Secondary (12 * low_edges (table_of info.parts files.meta) info.parts) (length files.secondary)
   sized Info (12 * info.vertices) (length files.info)
 
 -- the head of a grid, or its first fault

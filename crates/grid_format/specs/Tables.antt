@@ -1,5 +1,6 @@
 -- The blocks of a grid, by their numbers of edges in column order.
-use Rattle.std.specs.Prelude.{◌≡◌, ◌<◌, ◌≤◌, ◌⊎◌, ⊤, ℕ, ◌+◌, ◌*◌, List, length, sum, take, slice_index}
+use Rattle.std.specs.Prelude.{◌≡◌, ◌<◌, ◌≤◌, ◌⊎◌, ⊤, ℕ, ◌+◌, ◌-◌, ◌*◌, List, length, sum, sum_by, take, slice_index}
+use Rattle.std.specs.List.{range_with_len}
 use Rattle.grid_format.specs.declared.table.TableFault.{TableFault}
 use Rattle.grid_format.specs.declared.table.TableFault.TheVariants.{Depot, Damaged, NoMemory}
 
@@ -24,15 +25,34 @@ place_behind counts k = 12 * sum (take k counts)
 abbrev pub primary_place_of : BlockCounts → ℕ → ℕ → ℕ
 primary_place_of table i j = place_behind table.counts (block_place table.parts i j)
 
+-- how many edges column j has in the n rows from a on
+abbrev pub edges_in_rows : BlockCounts → ℕ → ℕ → ℕ → ℕ
+edges_in_rows table j a n = sum_by (λ i. count_at table i j) (range_with_len a n)
+
+-- how many edges the first n columns have on the diagonal and below it
+abbrev pub low_edges : BlockCounts → ℕ → ℕ
+low_edges table n = sum_by (λ j. edges_in_rows table j j (table.parts - j)) (range_with_len 0 n)
+
+-- where block (i,j), on the diagonal or below it, begins in Secondary
+abbrev pub secondary_place_of : BlockCounts → ℕ → ℕ → ℕ
+secondary_place_of table i j = 12 * (low_edges table j + edges_in_rows table j j (i - j))
+
 -- these are the places in Primary of blocks with these numbers of edges
 pub record ArePlaces (counts places : List ℕ) : Type 0 where
   pub same : length places ≡ length counts
   pub each : (k : ℕ) → k < length places → slice_index places k ≡ place_behind counts k
 
--- The table has a number and a place for each block.
-pub record IsTable (parts : ℕ) (counts places : List ℕ) : Type 0 where
+-- These are the places in Secondary where columns begin, on the diagonal and below it.
+pub record AreStarts (table : BlockCounts) (starts : List ℕ) : Type 0 where
+  pub same : length starts ≡ table.parts
+  pub each : (j : ℕ) → j < length starts → slice_index starts j ≡ 12 * low_edges table j
+
+-- The table has a number and a place for each block, and for each column the place where it begins in Secondary.
+pub record IsTable (parts : ℕ) (counts places starts : List ℕ) : Type 0 where
   pub blocks : length counts ≡ parts * parts
+  pub few : sum counts ≤ 2147483648
   pub begin : ArePlaces counts places
+  pub low_begin : AreStarts (record { parts = parts; counts = counts }) starts
 
 -- a fact that is owed where the depot failed
 abbrev pub OnDepotFault : TableFault → Type 0 → Type 0

@@ -1,5 +1,5 @@
 // The counts of blocks, added up.
-ghost use Rattle.std.specs.Prelude.{◌≡◌, ◌+◌, ◌*◌, ◌^◌, ◌≤◌, ◌<◌, length, IfOk, IfErr};
+ghost use Rattle.std.specs.Prelude.{◌≡◌, ◌+◌, ◌-◌, ◌*◌, ◌^◌, ◌≤◌, ◌<◌, length, sum, IfOk, IfErr};
 ghost use Rattle.grid_format.specs.Heads.{numbers};
 ghost use Rattle.grid_format.specs.Checks.{added, reached};
 
@@ -39,6 +39,20 @@ pub(crate) fn add_column(
         total += count;
     }
     Ok(total)
+}
+
+// Adds the last counts in a column's bytes, those from count `first` on.
+pub(crate) fn total_from(first: usize, bytes: &[u8], parts: usize) -> u64
+    requires whole { length bytes.now ≡ 8 * parts }
+    requires inside { first ≤ parts }
+    requires few { sum (numbers (8 * first) (parts - first) bytes.now) < 2 ^ 64 }
+    ensures { result ≡ sum (numbers (8 * first) (parts - first) bytes.now) }
+{
+    let mut total = 0;
+    for i in first..parts {
+        total += number_of_eight(bytes, 8 * i);
+    }
+    total
 }
 
 // The whole total is that of the edges, or else their number doesn't fit.

@@ -1,13 +1,15 @@
 // The head of a grid.
-ghost use Rattle.std.specs.Prelude.{◌≡◌, ◌+◌, ◌*◌, ◌^◌, ◌<◌, ◌≤◌, ℕ, List, Some, length, IfOk, IfErr, IsSome};
+ghost use Rattle.std.specs.Prelude.{◌≡◌, ◌+◌, ◌*◌, ◌^◌, ◌<◌, ◌≤◌, ℕ, List, Some, Ok, length, sum, IfOk, IfErr, IsSome, OnOk};
 ghost use Rattle.lumos_depot.specs.Causes.{Rose};
+ghost use Rattle.lumos_depot.specs.Files.{range_at};
 ghost use Rattle.lumos_depot.specs.declared.depot.FileKind.{FileKind};
-ghost use Rattle.grid_format.specs.Checks.{GridFiles, added, counted, fields_of, files_sized, head_of, in_meta, judged, sized};
+ghost use Rattle.grid_format.specs.Checks.{GridFiles, added, counted, fields_of, files_sized, head_of, in_meta, judged, sized, table_of};
 ghost use Rattle.grid_format.specs.Heads.{IsHead, counts_of, head_at, meta_length, number_at, numbers};
-ghost use Rattle.grid_format.specs.Outside.{DepotOwes, Gives, Holds, OnlyReads, Shows};
+ghost use Rattle.grid_format.specs.Outside.{DepotOwes, FaultGives, Gives, Holds, OnlyReads, Shows};
+ghost use Rattle.grid_format.specs.Tables.{low_edges};
 
 use crate::bytes::{begins_grid, number_of_eight, number_of_four};
-use crate::counts::{add_column, reach};
+use crate::counts::{add_column, reach, total_from};
 use crate::reads::{fill, length_of};
 use lumos_depot::{Depot, FileKind};
 
@@ -157,17 +159,19 @@ fn check_size<D: Depot>(depot: &mut D, kind: FileKind, want: u64) -> Result<(), 
     Ok(())
 }
 
-// The files behind a head have the lengths that it wants.
-fn check_files<D: Depot>(depot: &mut D, info: GridInfo) -> Result<(), GridFault>
+// The files behind a head, and behind counts with so many edges on the diagonal and below it, have their lengths.
+fn check_files<D: Depot>(depot: &mut D, info: GridInfo, low: u64) -> Result<(), GridFault>
     requires attached { IsSome (D.attached depot.old) }
     requires head { IsHead info }
+    requires few { low ≤ info.edges }
+    requires low { (files : GridFiles) → Holds (D.holds depot.old) files → low ≡ low_edges (table_of info.parts files.meta) info.parts }
     ensures told { (files : GridFiles) → Holds (D.holds depot.old) files → Gives result (files_sized info files) }
     ensures shown { IfErr result Shows }
     ensures reads { OnlyReads D.holds D.taken D.stored D.faults D.attached depot.old depot.new }
     ensures cause { DepotOwes result (Rose (D.faults depot.old) (D.faults depot.new)) }
 {
     check_size(depot, FileKind::Primary, 12 * info.edges)?;
-    check_size(depot, FileKind::Secondary, 0)?;
+    check_size(depot, FileKind::Secondary, 12 * low)?;
     check_size(depot, FileKind::Info, 12 * u64::from(info.vertices))
 }
 
@@ -189,6 +193,8 @@ fn check_column<D: Depot>(
     ensures told { (meta : List ℕ) → D.holds depot.old FileKind.Meta ≡ Some meta
         → Gives result (in_meta (added edges place before (numbers place parts meta))) }
     ensures fits { IfOk result (λ total. total ≤ edges) }
+    ensures column { OnOk result ((meta : List ℕ) → D.holds depot.old FileKind.Meta ≡ Some meta → column.new ≡ range_at place (8 * parts) meta) }
+    ensures total { IfOk result (λ total. total ≡ before + sum (numbers 0 parts column.new)) }
     ensures shown { IfErr result Shows }
     ensures reads { OnlyReads D.holds D.taken D.stored D.faults D.attached depot.old depot.new }
     ensures cause { DepotOwes result (Rose (D.faults depot.old) (D.faults depot.new)) }
@@ -205,30 +211,36 @@ fn check_column<D: Depot>(
     }
 }
 
-// The counts of all columns add up to the edges. The buffer has room for one column.
+// The counts of all columns add up to the edges. Answers how many of these the blocks on the diagonal and below it have.
+// The buffer has room for one column.
 fn check_columns<D: Depot>(
     depot: &mut D,
     info: GridInfo,
     column: &mut [u8],
-) -> Result<(), GridFault>
+) -> Result<u64, GridFault>
     requires attached { IsSome (D.attached depot.old) }
     requires head { IsHead info }
     requires whole { length column.old ≡ 8 * info.parts }
     requires inside { (meta : List ℕ) → D.holds depot.old FileKind.Meta ≡ Some meta → length meta ≡ meta_length info.parts }
-    ensures told { (meta : List ℕ) → D.holds depot.old FileKind.Meta ≡ Some meta
-        → Gives result (in_meta (counted info.edges (counts_of info.parts meta))) }
+    ensures told { IfOk result (λ low. (meta : List ℕ) → D.holds depot.old FileKind.Meta ≡ Some meta
+        → (in_meta (counted info.edges (counts_of info.parts meta)) ≡ Ok tt) × (low ≡ low_edges (table_of info.parts meta) info.parts)) }
+    ensures few { IfOk result (λ low. low ≤ info.edges) }
+    ensures failed { IfErr result (λ fault. (meta : List ℕ) → D.holds depot.old FileKind.Meta ≡ Some meta
+        → FaultGives fault (in_meta (counted info.edges (counts_of info.parts meta)))) }
     ensures shown { IfErr result Shows }
     ensures reads { OnlyReads D.holds D.taken D.stored D.faults D.attached depot.old depot.new }
     ensures cause { DepotOwes result (Rose (D.faults depot.old) (D.faults depot.new)) }
 {
     let parts = info.parts as usize;
     let mut total = 0;
+    let mut low = 0;
     for j in 0..parts {
         let place = 32 + 8 * (j * parts) as u64;
         total = check_column(depot, info.edges, place, total, column, parts)?;
+        low += total_from(j, column, parts);
     }
     match reach(info.edges, total) {
-        Ok(()) => Ok(()),
+        Ok(()) => Ok(low),
         Err(mismatch) => Err(GridFault::BadMeta {
             place: mismatch.place,
             found: mismatch.found,
@@ -237,8 +249,9 @@ fn check_columns<D: Depot>(
 }
 
 /// Reads the head of the grid in the attached directory, after the checks of Meta and of the lengths of Primary,
-/// Secondary and Info, in their order, and answers the first fault. It takes no memory and changes no file. The format
-/// and the order are our own.
+/// Secondary and Info, in their order, and answers the first fault. Primary has 12 bytes for each edge, Secondary 12 for
+/// each edge of the blocks on the diagonal and below it, Info 12 for each vertex. It takes no memory and changes no file.
+/// The format and the order are our own.
 ///
 /// `NotAGrid`: Meta doesn't begin with the eight bytes of a grid. `BadLength`: Meta has fewer than 32 bytes, or not 32
 /// and 8 for each block, or another file not its length. `WrongVersion`: the version isn't 1. `BadMeta`: the number at
@@ -267,7 +280,7 @@ pub fn read_head<D: Depot>(depot: &mut D) -> Result<GridInfo, GridFault>
         });
     }
     let mut column = [0; 2048];
-    check_columns(depot, info, &mut column[..8 * parts])?;
-    check_files(depot, info)?;
+    let low = check_columns(depot, info, &mut column[..8 * parts])?;
+    check_files(depot, info, low)?;
     Ok(info)
 }

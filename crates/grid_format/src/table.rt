@@ -5,7 +5,7 @@ ghost use Rattle.lumos_depot.specs.declared.depot.FileKind.{FileKind};
 ghost use Rattle.grid_format.specs.Checks.{GridFiles, added, counted, head_of};
 ghost use Rattle.grid_format.specs.Heads.{IsHead, counts_of, meta_length, numbers};
 ghost use Rattle.grid_format.specs.Outside.{Holds, OnlyReads};
-ghost use Rattle.grid_format.specs.Tables.{ArePlaces, IfDamaged, IsWrongCount, OnDepotFault, block_place, count_at, primary_place_of};
+ghost use Rattle.grid_format.specs.Tables.{ArePlaces, AreStarts, IfDamaged, IsWrongCount, OnDepotFault, block_place, count_at, primary_place_of, secondary_place_of};
 
 use crate::bytes::number_of_eight;
 use crate::counts::{add_column, reach};
@@ -33,6 +33,7 @@ pub struct BlockTable {
     parts: u32,
     counts: Vec<u64>,
     places: Vec<u64>,
+    low_starts: Vec<u64>,
 }
 
 impl Model for BlockTable {
@@ -42,7 +43,7 @@ impl Model for BlockTable {
 
     ghost view = { λ t. record { parts = t.parts; counts = t.counts.items } };
 
-    ghost invariant = { λ t. IsTable t.parts t.counts.items t.places.items };
+    ghost invariant = { λ t. IsTable t.parts t.counts.items t.places.items t.low_starts.items };
 }
 
 // Puts the counts in a column's bytes behind those that are there. There has to be room for them.
@@ -74,6 +75,34 @@ fn push_places(places: &mut Vec<u64>, counts: &[u64])
             unreachable!()
         };
         total += *count;
+    }
+}
+
+// Adds counts up.
+fn total_of(counts: &[u64]) -> u64
+    requires { sum counts.now < 2 ^ 64 }
+    ensures { result ≡ sum counts.now }
+{
+    counts.iter().sum()
+}
+
+// Puts the places in Secondary where the columns of blocks with these numbers of edges begin into an empty list, which
+// has room for them.
+fn push_low_starts(starts: &mut Vec<u64>, counts: &[u64], parts: usize)
+    requires blocks { length counts.now ≡ parts * parts }
+    requires few_parts { parts ≤ 256 }
+    requires sum { sum counts.now ≤ 2147483648 }
+    requires none { vec_len starts.old ≡ 0 }
+    requires room { parts ≤ vec_capacity starts.old }
+    ensures { AreStarts (record { parts = parts; counts = counts.now }) starts.new.items }
+{
+    let mut total = 0;
+    for j in 0..parts {
+        let Ok(()) = starts.push(12 * total) else {
+            unreachable!()
+        };
+        let first = j * parts;
+        total += total_of(&counts[first + j..first + parts]);
     }
 }
 
@@ -202,13 +231,18 @@ impl BlockTable {
         let Ok(mut places) = Vec::with_capacity(alloc, parts * parts) else {
             return Err(TableFault::NoMemory);
         };
+        let Ok(mut low_starts) = Vec::with_capacity(alloc, parts) else {
+            return Err(TableFault::NoMemory);
+        };
         let mut column = [0; 2048];
         load_columns(depot, info, &mut column[..8 * parts], &mut counts)?;
         push_places(&mut places, &counts);
+        push_low_starts(&mut low_starts, &counts, parts);
         Ok(BlockTable {
             parts: info.parts,
             counts,
             places,
+            low_starts,
         })
     }
 
@@ -230,5 +264,18 @@ impl BlockTable {
         ensures { result ≡ primary_place_of self.now i j }
     {
         self.places[place_of(self.parts, i, j)]
+    }
+
+    /// Where in Secondary the block from part i into part j begins, in constant time: 12 bytes for each edge of the
+    /// blocks on the diagonal or below it that stand before it in column order. It has to be such a block itself, so j is
+    /// at most i, and i below the number of parts.
+    pub fn secondary_place(&self, i: u32, j: u32) -> u64
+        requires row { i < self.now.parts }
+        requires low { j ≤ i }
+        ensures { result ≡ secondary_place_of self.now i j }
+    {
+        let first = self.primary_place(j, j);
+        let below = self.primary_place(i, j) - first;
+        self.low_starts[j as usize] + below
     }
 }

@@ -13,6 +13,9 @@ use std::test::Fail;
 const META: [u8; 64] =
     *b"LUMOSGRD\x01\0\0\0\x02\0\0\0\x05\0\0\0\0\0\0\0\x02\0\0\0\0\0\0\0\0\0\0\0\0\0\0\0\x01\0\0\0\0\0\0\0\x01\0\0\0\0\0\0\0\0\0\0\0\0\0\0\0";
 
+// The edge from 3 to 1, whose block alone stands below the diagonal.
+const SECONDARY: [u8; 12] = [3, 0, 0, 0, 1, 0, 0, 0, 1, 0, 0, 0];
+
 // Attaches a directory, and reads the head of the grid in it and the table of its blocks.
 fn read_grid<D: Depot>(
     alloc: Global,
@@ -119,6 +122,11 @@ fn a_head_is_read_and_its_faults_are_found(rt: HostRuntime) -> Result<(), Fail> 
                 .put_file(rt.alloc(), FileKind::Primary, &[0; 24])
                 .is_ok()
         );
+        assert!(rt;
+            depot
+                .put_file(rt.alloc(), FileKind::Secondary, &SECONDARY)
+                .is_ok()
+        );
         assert!(rt; depot.put_file(rt.alloc(), FileKind::Info, &[0; 59]).is_ok());
         match read_grid(rt.alloc(), &mut depot) {
             Ok(_) => panic!(rt; "byte {place}"),
@@ -147,12 +155,32 @@ fn a_head_that_was_written_is_read(rt: HostRuntime) -> Result<(), Fail> {
     assert!(rt; depot.put_file(rt.alloc(), FileKind::Info, &[0; 60]).is_ok());
     depot.detach();
     match read_grid(rt.alloc(), &mut depot) {
+        Ok(_) => panic!(rt; "no Secondary"),
+        Err(found) => assert_eq!(rt;
+            found,
+            GridFault::BadLength {
+                file: FileKind::Secondary,
+                want: 12,
+                found: 0,
+            }
+        ),
+    }
+    assert!(rt;
+        depot
+            .put_file(rt.alloc(), FileKind::Secondary, &SECONDARY)
+            .is_ok()
+    );
+    depot.detach();
+    match read_grid(rt.alloc(), &mut depot) {
         Ok((head, Some(table))) => {
             assert_eq!(rt; head, info);
             assert_eq!(rt; head.parts, 2);
             for (i, j, count, place) in [(0, 0, 0, 0), (1, 0, 1, 0), (0, 1, 1, 12), (1, 1, 0, 24)] {
                 assert_eq!(rt; table.count(i, j), count);
                 assert_eq!(rt; table.primary_place(i, j), place);
+            }
+            for (i, j, place) in [(0, 0, 0), (1, 0, 0), (1, 1, 12)] {
+                assert_eq!(rt; table.secondary_place(i, j), place);
             }
         }
         _ => panic!(rt; "no table"),

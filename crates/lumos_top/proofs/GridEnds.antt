@@ -1,6 +1,5 @@
 -- What a command over a grid comes to.
-use Rattle.std.proofs.Common.{◌≡◌, ◌==◌, ◌≤◌, ◌<◌, ◌*◌, inl, inr, ℕ, Bool, true, false, List, Option, Some, None, Result, Ok, Err, All, IsOk, IsSome, is_some, length, nat_lt, refl, sym, ap, subst, ◌∙◌, arith, if◌then◌else◌}
-use Rattle.std.proofs.lemmas.Bool.{eqb-true}
+use Rattle.std.proofs.Common.{◌≡◌, ◌≤◌, ◌<◌, inl, inr, ℕ, Bool, true, false, List, [], Option, Some, None, Result, Ok, Err, All, IsOk, IsSome, is_some, length, nat_lt, refl, sym, ap, subst, ◌∙◌, arith, if◌then◌else◌}
 use Rattle.std.specs.Option.{option_map}
 use Rattle.std.specs.Prelude.{IfErr, IfOk, IfSome}
 use Rattle.lumos_base.specs.Records.{IsEdge}
@@ -13,45 +12,45 @@ use Rattle.lumos_depot.specs.declared.stream.Failed.{Failed}
 use Rattle.lumos_depot.proofs.Written.{front_none}
 use Rattle.edge_text.specs.Reading.{Listed, reading}
 use Rattle.edge_text.specs.declared.fault.TextLimits.{TextLimits}
-use Rattle.grid_format.specs.Checks.{GridFiles, counted, fields_of, files_sized, head_of, in_meta, sized}
-use Rattle.grid_format.specs.Grid.{HasGrid, IsRead, grid}
-use Rattle.grid_format.specs.Heads.{counts_of, meta_length}
+use Rattle.grid_format.specs.Checks.{GridFiles, head_of}
+use Rattle.grid_format.specs.Grid.{HasGrid, IsRead, grid, grid_head}
 use Rattle.grid_format.specs.Outside.{Holds, OnlyReads}
 use Rattle.partition.specs.Parts.{Cut, chunk_of, chunk_size}
-use Rattle.grid_format.specs.declared.head.GridFault.{GridFault}
 use Rattle.grid_format.specs.declared.head.GridInfo.{GridInfo}
-use Rattle.grid_format.proofs.Accepted.{bind_ok, told_files}
 use Rattle.grid_build.specs.Built.{HasFiles, IsBuilt}
 use Rattle.grid_build.specs.Outside.{LeavesRuns as BuildLeaves, RoseBy}
 use Rattle.grid_build.proofs.Building.{AreLimits, list_within}
+use Rattle.grid_build.proofs.Moving.{rose_then}
 use Rattle.lumos_law.specs.Program.{Program}
 use Rattle.lumos_law.specs.Sync.{ending}
 use Rattle.lumos_report.specs.declared.records.Ending.{Ending as EndingRecord}
 use Rattle.lumos_report.specs.declared.records.Why.{Why}
 use Rattle.lumos_report.specs.declared.records.Why.TheVariants.{Still, Limit}
 use Rattle.early_engine.specs.Engines.{EngineState, IsOpened, cut_in}
-use Rattle.early_engine.specs.Passes.{bytes_of, passes}
+use Rattle.early_engine.specs.Passes.{primary_taken, secondary_taken}
 use Rattle.early_engine.specs.Opens.{OpenShows}
 use Rattle.early_engine.specs.Report.{finished, report}
 use Rattle.early_engine.specs.Runs.{RunComes, Streams}
 use Rattle.early_engine.specs.Making.{IsOver}
 use Rattle.early_engine.specs.Turns.{RunIsOver, RunShows, ending_by_why}
 use Rattle.grid_format.specs.Tables.{BlockCounts}
+use Rattle.early_engine.specs.declared.options.Mode.{Mode}
 use Rattle.early_engine.specs.declared.options.OpenFault.{OpenFault}
 use Rattle.early_engine.specs.declared.options.OpenFault.TheVariants as open_fault
 use Rattle.early_engine.specs.declared.options.RunFault.{RunFault}
 use Rattle.early_engine.specs.declared.options.RunFault.TheVariants as run_fault
 use Rattle.early_engine.specs.declared.options.RunOptions.{RunOptions}
-use Rattle.lumos_top.specs.Outcome.{Did, Ran, answer, answer_to, did_build, did_replay, did_run, did_within, done_with, done_within, ending_line, ending_status, replay_text, replay_with, run_bytes}
+use Rattle.lumos_top.specs.Outcome.{Did, Ran, answer, answer_to, did_build, did_replay, did_run, did_within, done_with, done_within, ending_line, ending_status, outcome_of, replay_text, replay_with, stop_line, stop_status}
 use Rattle.lumos_top.specs.Replays.{Streamed, streamed}
 use Rattle.lumos_top.specs.Words.{request}
 use Rattle.lumos_top.specs.Report.{grid_line}
-use Rattle.lumos_top.specs.Running.{BuiltAs, DoneTakes, Ends, HasDone, HasGridBuilt, IfDamaged, IfOver, IsGridOf, IsOverIn, IsWrongIn, Leaves, LeavesRuns, RunShown, RunTakes, Shown, Sides, TakesAs, WhereTold, done_status, ended_why, ending_of, ending_told, open_stop_of, run_stop_of}
+use Rattle.lumos_top.specs.Running.{BuiltAs, Ends, HasDone, HasGridBuilt, IfDamaged, IfOver, IsGridOf, IsOverIn, IsWrongIn, Leaves, LeavesRuns, RoseBoth, RunShown, RunTakes, Shown, Sides, Takes, TakesAs, WhereTold, ended_why, ending_of, ending_told, open_stop_of, run_stop_of}
 use Rattle.lumos_top.specs.declared.status.Completed.{Completed}
 use Rattle.lumos_top.specs.declared.status.Completed.TheVariants.{Run, Build}
 use Rattle.lumos_top.specs.declared.status.Ended.{Ended}
 use Rattle.lumos_top.specs.declared.status.Ended.TheVariants as ended
 use Rattle.lumos_top.specs.declared.status.Status.{Status}
+use Rattle.lumos_top.specs.declared.status.Status.TheVariants as status
 use Rattle.lumos_top.specs.declared.status.TooMany.{TooMany}
 use Rattle.lumos_top.specs.declared.status.TooMany.TheVariants.{Parts}
 use Rattle.lumos_top.specs.declared.words.ProgramName.{ProgramName}
@@ -167,67 +166,6 @@ accepted limits p bytes was is info files law b holds =
     ap head_of (files_are (grid b.list.edges b.list.vertices p) files was is b.files holds)
     ∙ (law b.list.edges b.list.vertices p b.within).head ∙ ap (λ (i : GridInfo). Ok i) (sym b.head)
 
-sized_is : (kind : FileKind) (want found : ℕ) (u : Unit {0}) → sized kind want found ≡ Ok u → found ≡ want
-sized_is kind want found u h = eqb-true found want (passes (found == want) h)
-  where
-    passes : (b : Bool) → (if b then Ok tt else Err (GridFault.BadLength kind want found)) ≡ Ok u → b ≡ true
-    passes true k = refl
-    passes false k = absurd (cc)
-
--- the lengths of files whose head was accepted
-lengths : (files : GridFiles) (info : GridInfo) → head_of files ≡ Ok info → (length files.primary ≡ 12 * info.edges) × (length files.info ≡ 12 * info.vertices)
-lengths files info h =
-    let a = bind_ok (fields_of files.meta) _ info h in
-    let b = bind_ok (sized Meta (meta_length a.0.parts) (length files.meta)) _ info a.2 in
-    let d = bind_ok (in_meta (counted a.0.edges (counts_of a.0.parts files.meta))) _ info b.2 in
-    let e = bind_ok (files_sized a.0 files) _ info d.2 in
-    let f = bind_ok (sized Primary (12 * a.0.edges) (length files.primary)) _ e.0 e.1 in
-    let k = bind_ok (sized Secondary 0 (length files.secondary)) _ e.0 f.2 in
-    let same : a.0 ≡ info = let q : ◌≡◌ {A = Result GridInfo GridFault} (Ok a.0) (Ok info) = e.2 in cc in (
-      sized_is Primary (12 * a.0.edges) (length files.primary) f.0 f.1 ∙ ap (λ (i : GridInfo). 12 * i.edges) same,
-      sized_is Info (12 * a.0.vertices) (length files.info) e.0 k.2 ∙ ap (λ (i : GridInfo). 12 * i.vertices) same,
-    )
-
-some_is : {A : Type 0} (o : Option A) → is_some o ≡ true → (x : A) × (o ≡ Some x)
-some_is None h = absurd (cc)
-some_is (Some x) h = (x, refl)
-
-same_some : {A : Type 0} (o : Option A) (x y : A) → o ≡ Some x → o ≡ Some y → x ≡ y
-same_some o x y h k = let e : Some x ≡ Some y = sym h ∙ k in cc
-
--- a depot that tells one of the files has them all, with the lengths that their head asks for
-told_lengths : (told : FileKind → Option (List ℕ)) (info : GridInfo) → ((j k : FileKind) → is_some (told j) ≡ is_some (told k)) → ((files : GridFiles) → Holds told files → head_of files ≡ Ok info) → (kind : FileKind) → is_some (told kind) ≡ true →
-    (files : GridFiles) × Holds told files × (length files.primary ≡ 12 * info.edges) × (length files.info ≡ 12 * info.vertices)
-told_lengths told info all accepts kind some =
-    let meta = some_is (told Meta) (all Meta kind ∙ some) in
-    let f = told_files told all meta.0 meta.1 in
-    let l = lengths f.0 info (accepts f.0 f.1) in
-    (f.0, f.1, l.0, l.1)
-
-pub info_long : (told now : FileKind → Option (List ℕ)) (info other : GridInfo) → ((j k : FileKind) → is_some (told j) ≡ is_some (told k)) → ((files : GridFiles) → Holds told files → head_of files ≡ Ok info) → Same told now → other ≡ info → IfSome (now Info) (λ file. 12 * other.vertices ≤ length file)
-info_long told now info other all accepts same is = go (now Info) refl
-  where
-    go : (o : Option (List ℕ)) → now Info ≡ o → IfSome o (λ file. 12 * other.vertices ≤ length file)
-    go None h = tt
-    go (Some file) h =
-        let before : told Info ≡ Some file = sym (same Info) ∙ h in
-        let l = told_lengths told info all accepts Info (ap is_some before) in
-        let long : length file ≡ 12 * info.vertices = ap length (same_some (told Info) file l.0.info before l.1.info_file) ∙ l.3 in
-        let n = ap (λ (i : GridInfo). i.vertices) is in
-        omega (arith, long, n)
-
-pub primary_long : (told now : FileKind → Option (List ℕ)) (info other : GridInfo) → ((j k : FileKind) → is_some (told j) ≡ is_some (told k)) → ((files : GridFiles) → Holds told files → head_of files ≡ Ok info) → Same told now → other ≡ info → IfSome (now Primary) (λ file. 12 * other.edges ≤ length file)
-primary_long told now info other all accepts same is = go (now Primary) refl
-  where
-    go : (o : Option (List ℕ)) → now Primary ≡ o → IfSome o (λ file. 12 * other.edges ≤ length file)
-    go None h = tt
-    go (Some file) h =
-        let before : told Primary ≡ Some file = sym (same Primary) ∙ h in
-        let l = told_lengths told info all accepts Primary (ap is_some before) in
-        let long : length file ≡ 12 * info.edges = ap length (same_some (told Primary) file l.0.primary before l.1.primary_file) ∙ l.2 in
-        let n = ap (λ (i : GridInfo). i.edges) is in
-        omega (arith, long, n)
-
 -- what an engine answers, as the command tells it
 abbrev pub told_run : Result EndingRecord RunFault → Result Ended Stop
 told_run (Ok end) = Ok (ending_of end)
@@ -245,34 +183,37 @@ run_leaves ran files old new (Err run_fault.Depot) h = h
 run_leaves ran files old new (Err (run_fault.Damaged kind place found)) h = h
 
 -- a grid's engine, where the files are told
-opened_at : {G V : Type 0} (list : Listed) (parts : ℕ) (info : GridInfo) (was is : FileKind → Option (List ℕ)) (engine : EngineState G V) → IsGridOf list parts info was → IsSome (was Meta) →
+opened_at : {G V S : Type 0} (list : Listed) (parts : ℕ) (info : GridInfo) (was is : FileKind → Option (List ℕ)) (engine : EngineState G V S) → IsGridOf list parts info was → IsSome (was Meta) →
     ((edges : List Edge) → All IsEdge edges → HasGrid edges info.vertices info.parts → Holds was (grid edges info.vertices info.parts) → IsOpened edges is engine) → IsOpened list.edges is engine
 opened_at list parts info was is engine g told opens =
     opens list.edges g.numbers (subst (λ (i : GridInfo). HasGrid list.edges i.vertices i.parts) (sym g.head) g.limits) (subst (λ (i : GridInfo). Holds was (grid list.edges i.vertices i.parts)) (sym g.head) (g.holds told))
 
 -- what came of its run, by the list
-comes_at : {G V S : Type 0} (model : G → Program V S) (name : G → List ℕ) (program : G) (list : Listed) (parts : ℕ) (options : RunOptions) (info : GridInfo) (was : FileKind → Option (List ℕ)) (engine : EngineState G V) (old new : Option (List ℕ)) (r : Result EndingRecord RunFault) →
+comes_at : {G V S : Type 0} (model : G → Program V S) (name : G → List ℕ) (program : G) (list : Listed) (parts : ℕ) (options : RunOptions) (info : GridInfo) (was : FileKind → Option (List ℕ)) (engine : EngineState G V S) (old new : Option (List ℕ)) (r : Result EndingRecord RunFault) →
     engine.program ≡ program → engine.options ≡ options → engine.info ≡ info → IsGridOf list parts info was →
-    RunComes (ending (model engine.program) list.edges engine.info.vertices engine.options.iterations) (report (model engine.program) (name engine.program) engine.options.show list.edges engine.info.vertices engine.info.parts engine.options.iterations) old new r →
-    RunComes (ending (model program) list.edges list.vertices options.iterations) (report (model program) (name program) options.show list.edges list.vertices parts options.iterations) old new r
+    RunComes (ending (model engine.program) list.edges engine.info.vertices engine.options.iterations) (report (model engine.program) (name engine.program) engine.options.show engine.options.mode list.edges engine.info.vertices engine.info.parts engine.options.iterations) old new r →
+    RunComes (ending (model program) list.edges list.vertices options.iterations) (report (model program) (name program) options.show options.mode list.edges list.vertices parts options.iterations) old new r
 comes_at model name program list parts options info was engine old new r program_is options_is info_is g comes =
-    subst (λ (pr : _). RunComes (ending (model pr) list.edges list.vertices options.iterations) (report (model pr) (name pr) options.show list.edges list.vertices parts options.iterations) old new r) program_is
-    (subst (λ (i : GridInfo). RunComes (ending (model engine.program) list.edges i.vertices options.iterations) (report (model engine.program) (name engine.program) options.show list.edges i.vertices i.parts options.iterations) old new r) (info_is ∙ g.head)
-    (subst (λ (o : RunOptions). RunComes (ending (model engine.program) list.edges engine.info.vertices o.iterations) (report (model engine.program) (name engine.program) o.show list.edges engine.info.vertices engine.info.parts o.iterations) old new r) options_is comes))
+    subst (λ (pr : _). RunComes (ending (model pr) list.edges list.vertices options.iterations) (report (model pr) (name pr) options.show options.mode list.edges list.vertices parts options.iterations) old new r) program_is
+    (subst (λ (i : GridInfo). RunComes (ending (model engine.program) list.edges i.vertices options.iterations) (report (model engine.program) (name engine.program) options.show options.mode list.edges i.vertices i.parts options.iterations) old new r) (info_is ∙ g.head)
+    (subst (λ (o : RunOptions). RunComes (ending (model engine.program) list.edges engine.info.vertices o.iterations) (report (model engine.program) (name engine.program) o.show o.mode list.edges engine.info.vertices engine.info.parts o.iterations) old new r) options_is comes))
 
 -- what a run comes to
 abbrev ran_with : {V S : Type 0} → Program V S → List ℕ → Listed → ℕ → RunOptions → Ran
-ran_with p name list parts options = record {
-  text = report p name options.show list.edges list.vertices parts options.iterations;
-  ending = ending p list.edges list.vertices options.iterations;
-  taken = run_bytes (ending p list.edges list.vertices options.iterations) list parts;
-}
+ran_with p name list parts options =
+    let end = ending p list.edges list.vertices options.iterations in
+    let c = chunk_size list.vertices parts in record {
+      text = report p name options.show options.mode list.edges list.vertices parts options.iterations;
+      ending = end;
+      primary = primary_taken options.mode list.edges c parts (finished end);
+      secondary = secondary_taken options.mode list.edges c parts (finished end);
+    }
 
 -- an engine that was opened on a grid, and what came of its run
-pub run_told : {G V S : Type 0} (model : G → Program V S) (name : G → List ℕ) (program : G) (list : Listed) (parts : ℕ) (options : RunOptions) (info : GridInfo) (was is : FileKind → Option (List ℕ)) (engine : EngineState G V) (old new : Option (List ℕ)) (r : Result EndingRecord RunFault) →
+pub run_told : {G V S : Type 0} (model : G → Program V S) (name : G → List ℕ) (program : G) (list : Listed) (parts : ℕ) (options : RunOptions) (info : GridInfo) (was is : FileKind → Option (List ℕ)) (engine : EngineState G V S) (old new : Option (List ℕ)) (r : Result EndingRecord RunFault) →
     engine.program ≡ program → engine.options ≡ options → engine.info ≡ info → IsGridOf list parts info was →
     ((edges : List Edge) → All IsEdge edges → HasGrid edges info.vertices info.parts → Holds was (grid edges info.vertices info.parts) → IsOpened edges is engine) →
-    ((edges : List Edge) → IsOpened edges is engine → RunComes (ending (model engine.program) edges engine.info.vertices engine.options.iterations) (report (model engine.program) (name engine.program) engine.options.show edges engine.info.vertices engine.info.parts engine.options.iterations) old new r) →
+    ((edges : List Edge) → IsOpened edges is engine → RunComes (ending (model engine.program) edges engine.info.vertices engine.options.iterations) (report (model engine.program) (name engine.program) engine.options.show engine.options.mode edges engine.info.vertices engine.info.parts engine.options.iterations) old new r) →
     Leaves (ran_with (model program) (name program) list parts options) was old new (told_run r)
 run_told model name program list parts options info was is engine old new r program_is options_is info_is g opens runs =
     run_leaves (ran_with (model program) (name program) list parts options) was old new r (λ told.
@@ -282,31 +223,50 @@ finished_told : (why : Why) (t : ℕ) → finished (ending_by_why why t) ≡ t
 finished_told Still t = refl
 finished_told Limit t = refl
 
-takes_why : (ran : Ran) (files : FileKind → Option (List ℕ)) (before after : ℕ) (why : Why) (t : ℕ) → WhereTold files (RoseBy before after ran.taken) → RunTakes ran files before after (Ok (ended_why why t))
+takes_why : (ran : Ran) (files : FileKind → Option (List ℕ)) (before after : FileKind → ℕ) (why : Why) (t : ℕ) → WhereTold files (RoseBoth ran.primary ran.secondary before after) → RunTakes ran files before after (Ok (ended_why why t))
 takes_why ran files before after Still t h = h
 takes_why ran files before after Limit t h = h
 
-pub takes_stop : (ran : Ran) (files : FileKind → Option (List ℕ)) (before after : ℕ) (fault : RunFault) → RunTakes ran files before after (run_stop_of fault)
+pub takes_stop : (ran : Ran) (files : FileKind → Option (List ℕ)) (before after : FileKind → ℕ) (fault : RunFault) → RunTakes ran files before after (run_stop_of fault)
 takes_stop ran files before after run_fault.Depot = tt
 takes_stop ran files before after run_fault.Out = tt
 takes_stop ran files before after (run_fault.Range iteration vertex) = tt
 takes_stop ran files before after (run_fault.Damaged kind place found) = tt
 
--- what its run took of Primary
-pub run_took : {G V S : Type 0} (model : G → Program V S) (name : G → List ℕ) (program : G) (list : Listed) (parts : ℕ) (options : RunOptions) (info : GridInfo) (was is : FileKind → Option (List ℕ)) (engine : EngineState G V) (old new : Option (List ℕ)) (end : EndingRecord) (first before after : ℕ) →
+-- how many bytes the first iterations of a run take of some file
+abbrev pub Size : Type 0
+Size = Mode → List Edge → ℕ → ℕ → ℕ → ℕ
+
+-- the same count, by the list and by how the run ends
+size_at : (size : Size) (list : Listed) (parts : ℕ) (options own : RunOptions) (info : GridInfo) (iterations done first before after : ℕ) →
+    own ≡ options → info ≡ grid_head list.edges list.vertices parts → iterations ≡ done → before ≡ first →
+    RoseBy before after (size own.mode list.edges (chunk_of (cut_in info)) info.parts iterations) →
+    RoseBy first after (size options.mode list.edges (chunk_size list.vertices parts) parts done)
+size_at size list parts options own info iterations done first before after options_is info_is count same took =
+    let c = chunk_size list.vertices parts in
+    subst (λ (b : ℕ). RoseBy b after (size options.mode list.edges c parts done)) same
+    (subst (λ (k : ℕ). RoseBy before after (size options.mode list.edges c parts k)) count
+    (subst (λ (o : RunOptions). RoseBy before after (size o.mode list.edges c parts iterations)) options_is
+    (subst (λ (i : GridInfo). RoseBy before after (size own.mode list.edges (chunk_of (cut_in i)) i.parts iterations)) info_is took)))
+
+-- what its run took of Primary and of Secondary
+pub run_took : {G V S : Type 0} (model : G → Program V S) (name : G → List ℕ) (program : G) (list : Listed) (parts : ℕ) (options : RunOptions) (info : GridInfo) (was is : FileKind → Option (List ℕ)) (engine : EngineState G V S) (old new : Option (List ℕ)) (end : EndingRecord) (first before after : FileKind → ℕ) →
     engine.program ≡ program → engine.options ≡ options → engine.info ≡ info → IsGridOf list parts info was →
     ((edges : List Edge) → All IsEdge edges → HasGrid edges info.vertices info.parts → Holds was (grid edges info.vertices info.parts) → IsOpened edges is engine) →
-    ((edges : List Edge) → IsOpened edges is engine → RunComes (ending (model engine.program) edges engine.info.vertices engine.options.iterations) (report (model engine.program) (name engine.program) engine.options.show edges engine.info.vertices engine.info.parts engine.options.iterations) old new (Ok end)) →
-    ((edges : List Edge) → IsOpened edges is engine → RoseBy before after (end.iterations * bytes_of edges (chunk_of (cut_in engine.info)) (passes engine.info.parts))) → before ≡ first →
+    ((edges : List Edge) → IsOpened edges is engine → RunComes (ending (model engine.program) edges engine.info.vertices engine.options.iterations) (report (model engine.program) (name engine.program) engine.options.show engine.options.mode edges engine.info.vertices engine.info.parts engine.options.iterations) old new (Ok end)) →
+    ((edges : List Edge) → IsOpened edges is engine → RoseBy (before Primary) (after Primary) (primary_taken engine.options.mode edges (chunk_of (cut_in engine.info)) engine.info.parts end.iterations)) →
+    ((edges : List Edge) → IsOpened edges is engine → RoseBy (before Secondary) (after Secondary) (secondary_taken engine.options.mode edges (chunk_of (cut_in engine.info)) engine.info.parts end.iterations)) →
+    before Primary ≡ first Primary → before Secondary ≡ first Secondary →
     RunTakes (ran_with (model program) (name program) list parts options) was first after (Ok (ending_of end))
-run_took model name program list parts options info was is engine old new end first before after program_is options_is info_is g opens runs takes same =
+run_took model name program list parts options info was is engine old new end first before after program_is options_is info_is g opens runs primary secondary same_primary same_secondary =
     takes_why (ran_with (model program) (name program) list parts options) was first after end.why end.iterations (λ told.
     let opened = opened_at list parts info was is engine g told opens in
     let comes = comes_at model name program list parts options info was engine old new (Ok end) program_is options_is info_is g (runs list.edges opened) in
-    let count = ap finished comes.0 ∙ finished_told end.why end.iterations in
-    let size = bytes_of list.edges (chunk_size list.vertices parts) (passes parts) in
-    let took : RoseBy before after (end.iterations * size) = subst (λ (i : GridInfo). RoseBy before after (end.iterations * bytes_of list.edges (chunk_of (cut_in i)) (passes i.parts))) (info_is ∙ g.head) (takes list.edges opened) in
-    subst (λ (k : ℕ). RoseBy first after (k * size)) (sym count) (subst (λ (k : ℕ). RoseBy k after (end.iterations * size)) same took))
+    let count = sym (finished_told end.why end.iterations) ∙ sym (ap finished comes.0) in
+    let done = finished (ending (model program) list.edges list.vertices options.iterations) in record {
+      primary_rose = size_at primary_taken list parts options engine.options engine.info end.iterations done (first Primary) (before Primary) (after Primary) options_is (info_is ∙ g.head) count same_primary (primary list.edges opened);
+      secondary_rose = size_at secondary_taken list parts options engine.options engine.info end.iterations done (first Secondary) (before Secondary) (after Secondary) options_is (info_is ∙ g.head) count same_secondary (secondary list.edges opened);
+    })
 
 -- an engine that wasn't opened
 pub unopened : (ran : Ran) (info : GridInfo) (files : FileKind → Option (List ℕ)) (out : Option (List ℕ)) (fault : OpenFault) → OpenShows info (files Meta) fault → Leaves ran files out out (Err (open_stop_of fault))
@@ -393,54 +353,82 @@ ran_done ran limits p left_old left_new was is now out new info r h same leaves 
 }
 
 -- a command that is done took so much, by the answer to what was read
-takes_by : (answer other : Result Did Stop) (files : FileKind → Option (List ℕ)) (before after : ℕ) (r : Result Completed Stop) → answer ≡ other → TakesAs answer files before after r → TakesAs other files before after r
+takes_by : (answer other : Result Did Stop) (files : FileKind → Option (List ℕ)) (before after : FileKind → ℕ) (r : Result Completed Stop) → answer ≡ other → TakesAs answer files before after r → TakesAs other files before after r
 takes_by answer other files before after r is h = subst (λ a. TakesAs a files before after r) is h
 
 read_is : (limits : TextLimits) (p : ℕ) (sides : Sides) (info : GridInfo) (h : HasGridBuilt limits p sides (Ok info)) (bytes : List ℕ) → sides.left_old ≡ Some bytes → Ok h.builds.0.list ≡ reading limits bytes
 read_is limits p sides info h bytes told = sym h.builds.0.is ∙ ap (reading limits) (h.told bytes told)
 
-ended_takes : (ran : Listed → Ran) (p : ℕ) (list : Listed) (was is : FileKind → Option (List ℕ)) (before after : ℕ) (r : Result Ended Stop) → (IsSome (was Meta) → IsSome (is Meta)) → RunTakes (ran list) is before after r → TakesAs (Ok (did_run ran p list)) was before after (completed_run r)
-ended_takes ran p list was is before after (Ok (ended.Over iteration vertex)) still h = λ done. absurd (cc)
-ended_takes ran p list was is before after (Ok (ended.Still iteration)) still h = λ done told. h (still told)
-ended_takes ran p list was is before after (Ok (ended.Limit iteration)) still h = λ done told. h (still told)
-ended_takes ran p list was is before after (Err why) still h = tt
+-- what was read for Secondary, by the bytes that it then has
+pub copied_by : (told : Option (List ℕ)) (first before after : ℕ) (other : List ℕ → Type 0) → before ≡ first → IfSome told (λ file. RoseBy before after (length file) × other file) → IfSome told (λ file. RoseBy first after (length file))
+copied_by None first before after other same h = tt
+copied_by (Some file) first before after other same h = subst (λ (k : ℕ). RoseBy k after (length file)) same h.0
 
-pub ran_takes : (ran : Listed → Ran) (limits : TextLimits) (p : ℕ) (left_old left_new : Option (List ℕ)) (was is : FileKind → Option (List ℕ)) (out : Option (List ℕ)) (info : GridInfo) (first before after : ℕ) (r : Result Ended Stop) (bytes : List ℕ) →
-    (h : HasGridBuilt limits p (sides_of left_old left_new was is out out) (Ok info)) → left_old ≡ Some bytes → before ≡ first → RunTakes (ran h.builds.0.list) is before after r → TakesAs (done_with (did_run ran p) (reading limits bytes)) was first after (completed_run r)
-ran_takes ran limits p left_old left_new was is out info first before after r bytes h told same takes =
+-- those are the grid's
+copied_is : (own : GridFiles) (was is : FileKind → Option (List ℕ)) (before after : ℕ) → ((j k : FileKind) → is_some (is j) ≡ is_some (is k)) → HasFiles own was is → IfSome (is Secondary) (λ file. RoseBy before after (length file)) → WhereTold was (RoseBy before after (length own.secondary))
+copied_is own was is before after all h copied = λ told.
+    let some = told_before (was Meta) (is Meta) own.meta h.meta_file told in
+    subst (λ (o : Option (List ℕ)). IfSome o (λ file. RoseBy before after (length file))) (file_told (was Secondary) (is Secondary) own.secondary h.secondary_file (all Secondary Meta ∙ some)) copied
+
+-- what a build took, and then a run
+both_took : (ran : Listed → Ran) (p : ℕ) (list : Listed) (was is : FileKind → Option (List ℕ)) (first before after : FileKind → ℕ) → (IsSome (was Meta) → IsSome (is Meta)) →
+    WhereTold was (RoseBy (first Primary) (before Primary) (length (grid list.edges list.vertices p).secondary)) → before Secondary ≡ first Secondary → WhereTold is (RoseBoth (ran list).primary (ran list).secondary before after) → Takes (outcome_of (Ok (did_run ran p list))) was first after
+both_took ran p list was is first before after still copied unread takes = record {
+  primary = λ told. rose_then (first Primary) (before Primary) (after Primary) (length (grid list.edges list.vertices p).secondary) (ran list).primary (copied told) (takes (still told)).primary_rose;
+  secondary = λ told. subst (λ (k : ℕ). RoseBy k (after Secondary) (ran list).secondary) unread (takes (still told)).secondary_rose;
+}
+
+ended_takes : (ran : Listed → Ran) (p : ℕ) (list : Listed) (was is : FileKind → Option (List ℕ)) (first before after : FileKind → ℕ) (r : Result Ended Stop) → (IsSome (was Meta) → IsSome (is Meta)) →
+    WhereTold was (RoseBy (first Primary) (before Primary) (length (grid list.edges list.vertices p).secondary)) → before Secondary ≡ first Secondary → RunTakes (ran list) is before after r → TakesAs (Ok (did_run ran p list)) was first after (completed_run r)
+ended_takes ran p list was is first before after (Ok (ended.Over iteration vertex)) still copied unread h = λ done. absurd (cc)
+ended_takes ran p list was is first before after (Ok (ended.Still iteration)) still copied unread h = λ done. both_took ran p list was is first before after still copied unread h
+ended_takes ran p list was is first before after (Ok (ended.Limit iteration)) still copied unread h = λ done. both_took ran p list was is first before after still copied unread h
+ended_takes ran p list was is first before after (Err why) still copied unread h = tt
+
+pub ran_takes : (ran : Listed → Ran) (limits : TextLimits) (p : ℕ) (left_old left_new : Option (List ℕ)) (was is : FileKind → Option (List ℕ)) (out : Option (List ℕ)) (info : GridInfo) (first before after : FileKind → ℕ) (r : Result Ended Stop) (bytes : List ℕ) → ((j k : FileKind) → is_some (is j) ≡ is_some (is k)) →
+    (h : HasGridBuilt limits p (sides_of left_old left_new was is out out) (Ok info)) → left_old ≡ Some bytes → IfSome (is Secondary) (λ file. RoseBy (first Primary) (before Primary) (length file)) → before Secondary ≡ first Secondary → RunTakes (ran h.builds.0.list) is before after r → TakesAs (done_with (did_run ran p) (reading limits bytes)) was first after (completed_run r)
+ran_takes ran limits p left_old left_new was is out info first before after r bytes all h told copied unread takes =
+    let b = h.builds.0 in
     takes_by _ _ was first after (completed_run r) (ap (done_with (did_run ran p)) (read_is limits p (sides_of left_old left_new was is out out) info h bytes told))
-    (subst (λ (k : ℕ). TakesAs (Ok (did_run ran p h.builds.0.list)) was k after (completed_run r)) same
-    (ended_takes ran p h.builds.0.list was is before after r (told_before (was Meta) (is Meta) _ h.builds.0.files.meta_file) takes))
+    (ended_takes ran p b.list was is first before after r (told_before (was Meta) (is Meta) _ b.files.meta_file)
+    (copied_is (grid b.list.edges b.list.vertices p) was is (first Primary) (before Primary) all b.files copied) unread takes)
 
 none_taken : (before after : ℕ) → after ≡ before → RoseBy before after 0
 none_taken before after same below = omega (arith, same)
 
-pub built_takes : (limits : TextLimits) (p : ℕ) (left_old left_new : Option (List ℕ)) (was is : FileKind → Option (List ℕ)) (out : Option (List ℕ)) (info : GridInfo) (before after : ℕ) (bytes : List ℕ) →
-    HasGridBuilt limits p (sides_of left_old left_new was is out out) (Ok info) → left_old ≡ Some bytes → after ≡ before → TakesAs (done_with (did_build p) (reading limits bytes)) was before after (Ok Build)
-built_takes limits p left_old left_new was is out info before after bytes h told same =
-    takes_by _ _ was before after (Ok Build) (ap (done_with (did_build p)) (read_is limits p (sides_of left_old left_new was is out out) info h bytes told)) (λ done. none_taken before after same)
+pub built_takes : (limits : TextLimits) (p : ℕ) (left_old left_new : Option (List ℕ)) (was is : FileKind → Option (List ℕ)) (out : Option (List ℕ)) (info : GridInfo) (before after : FileKind → ℕ) (bytes : List ℕ) → ((j k : FileKind) → is_some (is j) ≡ is_some (is k)) →
+    HasGridBuilt limits p (sides_of left_old left_new was is out out) (Ok info) → left_old ≡ Some bytes → IfSome (is Secondary) (λ file. RoseBy (before Primary) (after Primary) (length file)) → after Secondary ≡ before Secondary → TakesAs (done_with (did_build p) (reading limits bytes)) was before after (Ok Build)
+built_takes limits p left_old left_new was is out info before after bytes all h told copied unread =
+    let b = h.builds.0 in
+    takes_by _ _ was before after (Ok Build) (ap (done_with (did_build p)) (read_is limits p (sides_of left_old left_new was is out out) info h bytes told)) (λ done. record {
+      primary = copied_is (grid b.list.edges b.list.vertices p) was is (before Primary) (after Primary) all b.files copied;
+      secondary = none_taken (before Secondary) (after Secondary) unread;
+    })
 
-pub within_takes : (command : Listed → Did) (r : Result TextLimits TooMany) (limits : TextLimits) (bytes : List ℕ) (files : FileKind → Option (List ℕ)) (before after : ℕ) (result : Result Completed Stop) → r ≡ Ok limits → TakesAs (done_with command (reading limits bytes)) files before after result → TakesAs (done_within command r bytes) files before after result
+pub within_takes : (command : Listed → Did) (r : Result TextLimits TooMany) (limits : TextLimits) (bytes : List ℕ) (files : FileKind → Option (List ℕ)) (before after : FileKind → ℕ) (result : Result Completed Stop) → r ≡ Ok limits → TakesAs (done_with command (reading limits bytes)) files before after result → TakesAs (done_within command r bytes) files before after result
 within_takes command r limits bytes files before after result is h = subst (λ l. TakesAs (done_within command l bytes) files before after result) (sym is) h
 
-pub asked_takes : (words : List (List ℕ)) (r : Result Request UsageFault) (bytes : List ℕ) (files : FileKind → Option (List ℕ)) (before after : ℕ) (result : Result Completed Stop) → request words ≡ r → TakesAs (answer_to r bytes) files before after result → TakesAs (answer words bytes) files before after result
+pub asked_takes : (words : List (List ℕ)) (r : Result Request UsageFault) (bytes : List ℕ) (files : FileKind → Option (List ℕ)) (before after : FileKind → ℕ) (result : Result Completed Stop) → request words ≡ r → TakesAs (answer_to r bytes) files before after result → TakesAs (answer words bytes) files before after result
 asked_takes words r bytes files before after result is h = subst (λ q. TakesAs (answer_to q bytes) files before after result) (sym is) h
 
 -- a replay takes nothing
-text_takes : (r : Result (List ℕ) Stop) (files : FileKind → Option (List ℕ)) (t : ℕ) (s : Status) → DoneTakes (did_replay r) files t t s
-text_takes (Ok text) files t s = λ done. none_taken t t refl
-text_takes (Err why) files t s = tt
+nothing_taken : (files : FileKind → Option (List ℕ)) (t : FileKind → ℕ) (text err : List ℕ) (s : Status) → Takes (record { status = s; out = text; err = err; built = None; streamed = false; primary = 0; secondary = 0 }) files t t
+nothing_taken files t text err s = record { primary = λ told. none_taken (t Primary) (t Primary) refl; secondary = none_taken (t Secondary) (t Secondary) refl }
 
-stream_takes : (program : ProgramName) (parts : ℕ) (r : Result Streamed Stop) (files : FileKind → Option (List ℕ)) (t : ℕ) (s : Status) → DoneTakes (replay_with program parts r) files t t s
-stream_takes program parts (Ok stream) files t s = text_takes (replay_text program parts stream) files t s
-stream_takes program parts (Err why) files t s = tt
+text_takes : (r : Result (List ℕ) Stop) (files : FileKind → Option (List ℕ)) (t : FileKind → ℕ) → Takes (outcome_of (did_replay r)) files t t
+text_takes (Ok text) files t = nothing_taken files t text [] status.Done
+text_takes (Err why) files t = nothing_taken files t [] (stop_line why) (stop_status why)
 
-few_takes : (many : Bool) (program : ProgramName) (parts : ℕ) (why : Stop) (r : Result Streamed Stop) (files : FileKind → Option (List ℕ)) (t : ℕ) (s : Status) → DoneTakes (if many then Err why else replay_with program parts r) files t t s
-few_takes true program parts why r files t s = tt
-few_takes false program parts why r files t s = stream_takes program parts r files t s
+stream_takes : (program : ProgramName) (parts : ℕ) (r : Result Streamed Stop) (files : FileKind → Option (List ℕ)) (t : FileKind → ℕ) → Takes (outcome_of (replay_with program parts r)) files t t
+stream_takes program parts (Ok stream) files t = text_takes (replay_text program parts stream) files t
+stream_takes program parts (Err why) files t = nothing_taken files t [] (stop_line why) (stop_status why)
 
-pub replay_takes : (program : ProgramName) (parts : ℕ) (bytes : List ℕ) (files : FileKind → Option (List ℕ)) (t : ℕ) (r : Result Completed Stop) → TakesAs (did_within program parts bytes) files t t r
-replay_takes program parts bytes files t (Ok completed) = few_takes (nat_lt 64 parts) program parts (stop.TooMany (Parts parts 64)) (streamed 1099511627776 bytes) files t (done_status completed)
+few_takes : (many : Bool) (program : ProgramName) (parts : ℕ) (why : Stop) (r : Result Streamed Stop) (files : FileKind → Option (List ℕ)) (t : FileKind → ℕ) → Takes (outcome_of (if many then Err why else replay_with program parts r)) files t t
+few_takes true program parts why r files t = nothing_taken files t [] (stop_line why) (stop_status why)
+few_takes false program parts why r files t = stream_takes program parts r files t
+
+pub replay_takes : (program : ProgramName) (parts : ℕ) (bytes : List ℕ) (files : FileKind → Option (List ℕ)) (t : FileKind → ℕ) (r : Result Completed Stop) → TakesAs (did_within program parts bytes) files t t r
+replay_takes program parts bytes files t (Ok completed) = λ done. few_takes (nat_lt 64 parts) program parts (stop.TooMany (Parts parts 64)) (streamed 1099511627776 bytes) files t
 replay_takes program parts bytes files t (Err why) = tt
 
 -- what every step leaves
@@ -451,10 +439,8 @@ module _ {D : Type 0} (h : D → FileKind → Option (List ℕ)) (t s : D → Fi
     sums = second.sums ∙ first.sums;
     values_taken = second.values_taken ∙ first.values_taken;
     sums_taken = second.sums_taken ∙ first.sums_taken;
-    secondary_taken = second.secondary_taken ∙ first.secondary_taken;
     values_stored = second.values_stored ∙ first.values_stored;
     sums_stored = second.sums_stored ∙ first.sums_stored;
-    secondary_stored = second.secondary_stored ∙ first.secondary_stored;
   }
 
   pub same_leaves : (a b : D) → Same (h a) (h b) → Same (t a) (t b) → Same (s a) (s b) → LeavesRuns h t s a b
@@ -463,10 +449,8 @@ module _ {D : Type 0} (h : D → FileKind → Option (List ℕ)) (t s : D → Fi
     sums = contents Sums;
     values_taken = taken Values;
     sums_taken = taken Sums;
-    secondary_taken = taken Secondary;
     values_stored = stored Values;
     sums_stored = stored Sums;
-    secondary_stored = stored Secondary;
   }
 
 module _ {D : Type 0} (h : D → FileKind → Option (List ℕ)) (t s : D → FileKind → ℕ) (f : D → ℕ) (a : D → Option (List ℕ)) where
@@ -474,12 +458,10 @@ module _ {D : Type 0} (h : D → FileKind → Option (List ℕ)) (t s : D → Fi
   build_leaves old new b = record {
     values = b.values;
     sums = b.sums;
-    values_taken = b.taken Values (λ e. cc);
-    sums_taken = b.taken Sums (λ e. cc);
-    secondary_taken = b.taken Secondary (λ e. cc);
+    values_taken = b.taken Values (λ e. cc) (λ e. cc);
+    sums_taken = b.taken Sums (λ e. cc) (λ e. cc);
     values_stored = b.values_stored;
     sums_stored = b.sums_stored;
-    secondary_stored = b.secondary_stored;
   }
 
   pub open_leaves : (old new : D) → OnlyReads h t s f a old new → LeavesRuns h t s old new
@@ -488,22 +470,18 @@ module _ {D : Type 0} (h : D → FileKind → Option (List ℕ)) (t s : D → Fi
     sums = b.contents Sums;
     values_taken = b.taken Values (λ e. cc);
     sums_taken = b.taken Sums (λ e. cc);
-    secondary_taken = b.taken Secondary (λ e. cc);
     values_stored = b.stored Values;
     sums_stored = b.stored Sums;
-    secondary_stored = b.stored Secondary;
   }
 
   pub run_leaves_files : (old new : D) → Streams h t s f a old new → LeavesRuns h t s old new
   run_leaves_files old new b = record {
     values = b.contents Values;
     sums = b.contents Sums;
-    values_taken = b.taken Values (λ e. cc) (λ e. cc);
-    sums_taken = b.taken Sums (λ e. cc) (λ e. cc);
-    secondary_taken = b.taken Secondary (λ e. cc) (λ e. cc);
+    values_taken = b.taken Values (λ e. cc) (λ e. cc) (λ e. cc);
+    sums_taken = b.taken Sums (λ e. cc) (λ e. cc) (λ e. cc);
     values_stored = b.stored Values;
     sums_stored = b.stored Sums;
-    secondary_stored = b.stored Secondary;
   }
 
 -- what an end shows
@@ -524,7 +502,7 @@ pub damaged_stop : (cut : Cut) (table : BlockCounts) (fault : RunFault) → RunS
 damaged_stop cut table run_fault.Depot h = tt
 damaged_stop cut table run_fault.Out h = tt
 damaged_stop cut table (run_fault.Range iteration vertex) h = tt
-damaged_stop cut table (run_fault.Damaged kind place found) h = inr (h.0, (cut, table, h.1))
+damaged_stop cut table (run_fault.Damaged kind place found) h = inr (cut, table, h)
 
 pub damaged_open : (info : GridInfo) (told : Option (List ℕ)) (fault : OpenFault) → OpenShows info told fault → IfDamaged (open_stop_of fault) IsWrongIn
 damaged_open info told (open_fault.BudgetTooSmall need given) h = tt

@@ -6,12 +6,11 @@ use Rattle.lumos_depot.specs.Streams.{AppendsFront, Writes, after_told}
 use Rattle.lumos_depot.proofs.Written.{front_none, front_whole}
 use Rattle.edge_text.specs.declared.fault.TextFault.{TextFault}
 use Rattle.edge_text.specs.declared.fault.TextFault.TheVariants.{Input, TooManyEdges, InputTooLong}
-use Rattle.grid_build.specs.Outside.{RoseBy}
 use Rattle.lumos_law.specs.Sync.{Ending, over_in, still_in, limit_at}
 use Rattle.lumos_depot.specs.declared.depot.FileKind.{FileKind}
 use Rattle.lumos_depot.specs.declared.depot.FileKind.TheVariants.{Meta}
 use Rattle.lumos_top.specs.Outcome.{Did, Outcome, answer, ending_line, ending_status, line_for, outcome, outcome_of, outside_line, stop_line, stop_status}
-use Rattle.lumos_top.specs.Running.{Ends, EndsOn, FilesAre, GetsLine, IfTold, IsOverAsked, IsWrongAsked, IsOutside, IsRefused, IsSomeOutcome, IsToldOutcome, Shown, Sides, StopsAtWords, TakesAs, TellsDamage, TellsOver, WhereTold, done_line, done_status, ending_told}
+use Rattle.lumos_top.specs.Running.{Ends, EndsOn, FilesAre, GetsLine, IfTold, IsOverAsked, IsWrongAsked, IsOutside, IsRefused, IsSomeOutcome, IsToldOutcome, Shown, Sides, StopsAtWords, Takes, TakesAs, TellsDamage, TellsOver, WhereTold, done_line, done_status, ending_told}
 use Rattle.lumos_top.specs.declared.status.Completed.{Completed}
 use Rattle.lumos_top.specs.declared.status.Completed.TheVariants.{Run, Build, Replay}
 use Rattle.lumos_top.specs.declared.status.Ended.TheVariants as ended
@@ -292,29 +291,24 @@ text_not_done (Input fault) h = cc
 text_not_done (TooManyEdges limit) h = cc
 text_not_done (InputTooLong limit) h = cc
 
--- what was taken of Primary where a command is done
-taken_at : (answer : Result Did Stop) (sides : Sides) (r : Result Completed Stop) (before after : ℕ) → Ends answer sides r → TakesAs answer sides.was before after r → end_status r ≡ status.Done → IfTold (outcome_of answer).streamed sides.was (RoseBy before after (outcome_of answer).taken)
-taken_at answer sides (Ok completed) before after h takes done =
-    let own : TakesAs (Ok h.did) sides.was before after (Ok completed) = subst (λ a. TakesAs a sides.was before after (Ok completed)) h.gives takes in
-    subst (λ a. IfTold (outcome_of a).streamed sides.was (RoseBy before after (outcome_of a).taken)) (sym h.gives) (own done)
-taken_at answer sides (Err (stop.Text fault)) before after h takes done = absurd (text_not_done fault done)
-taken_at answer sides (Err stop.Memory) before after h takes done = absurd (cc)
-taken_at answer sides (Err stop.Read) before after h takes done = absurd (cc)
-taken_at answer sides (Err stop.Depot) before after h takes done = absurd (cc)
-taken_at answer sides (Err stop.Write) before after h takes done = absurd (cc)
-taken_at answer sides (Err (stop.Damaged file place found)) before after h takes done = absurd (cc)
-taken_at answer sides (Err (stop.Usage fault)) before after h takes done = absurd (cc)
-taken_at answer sides (Err (stop.TooMany many)) before after h takes done = absurd (cc)
-taken_at answer sides (Err (stop.BadSchedule line)) before after h takes done = absurd (cc)
-taken_at answer sides (Err (stop.ScheduleEnded line)) before after h takes done = absurd (cc)
-taken_at answer sides (Err (stop.TooManyEvents limit)) before after h takes done = absurd (cc)
-taken_at answer sides (Err (stop.Illegal event why)) before after h takes done = absurd (cc)
-
-pub told_taken : (words : List (List ℕ)) (sides : Sides) (r : Result Completed Stop) (bytes : List ℕ) (s : Status) (before after : ℕ) → end_status r ≡ s → EndsOn (answer words) sides r → sides.left_old ≡ Some bytes → TakesAs (answer words bytes) sides.was before after r → s ≡ status.Done → IfTold (outcome words bytes).streamed sides.was (RoseBy before after (outcome words bytes).taken)
-told_taken words sides r bytes s before after is h told takes done = taken_at (answer words bytes) sides r before after (told_ends words sides r bytes h told) takes (is ∙ done)
+-- what was taken where a command is done
+pub done_takes : (answer : Result Did Stop) (files : FileKind → Option (List ℕ)) (before after : FileKind → ℕ) (r : Result Completed Stop) (s : Status) → end_status r ≡ s → TakesAs answer files before after r → s ≡ status.Done → Takes (outcome_of answer) files before after
+done_takes answer files before after (Ok completed) s is h done = h (is ∙ done)
+done_takes answer files before after (Err (stop.Text fault)) s is h done = absurd (text_not_done fault (is ∙ done))
+done_takes answer files before after (Err stop.Memory) s is h done = absurd (cc)
+done_takes answer files before after (Err stop.Read) s is h done = absurd (cc)
+done_takes answer files before after (Err stop.Depot) s is h done = absurd (cc)
+done_takes answer files before after (Err stop.Write) s is h done = absurd (cc)
+done_takes answer files before after (Err (stop.Damaged file place found)) s is h done = absurd (cc)
+done_takes answer files before after (Err (stop.Usage fault)) s is h done = absurd (cc)
+done_takes answer files before after (Err (stop.TooMany many)) s is h done = absurd (cc)
+done_takes answer files before after (Err (stop.BadSchedule line)) s is h done = absurd (cc)
+done_takes answer files before after (Err (stop.ScheduleEnded line)) s is h done = absurd (cc)
+done_takes answer files before after (Err (stop.TooManyEvents limit)) s is h done = absurd (cc)
+done_takes answer files before after (Err (stop.Illegal event why)) s is h done = absurd (cc)
 
 over_asked : (asked : Result Request UsageFault) (iteration vertex : ℕ) → Shown asked (Ok (Run (ended.Over iteration vertex))) → IsOverAsked asked vertex
-over_asked (Ok (request.Run program directory iterations list)) iteration vertex h = h
+over_asked (Ok (request.Run program directory iterations mode list)) iteration vertex h = h
 over_asked (Ok (request.Build directory list)) iteration vertex h = tt
 over_asked (Ok (request.Replay program parts)) iteration vertex h = tt
 over_asked (Err fault) iteration vertex h = tt
@@ -329,7 +323,7 @@ tells_over asked completed iteration vertex old new before now r line is h same 
 }
 
 wrong_asked : (asked : Result Request UsageFault) (kind : FileKind) (place found : ℕ) → Shown asked (Err (stop.Damaged kind place found)) → IsWrongAsked asked kind place found
-wrong_asked (Ok (request.Run program directory iterations list)) kind place found h = h
+wrong_asked (Ok (request.Run program directory iterations mode list)) kind place found h = h
 wrong_asked (Ok (request.Build directory list)) kind place found h = tt
 wrong_asked (Ok (request.Replay program parts)) kind place found h = tt
 wrong_asked (Err fault) kind place found h = tt

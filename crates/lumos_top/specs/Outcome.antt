@@ -1,5 +1,5 @@
 -- What words and input come to: a status, a text, a fault line and the files of a grid.
-use Rattle.std.specs.Prelude.{ℕ, ◌*◌, Bool, true, false, List, [], ◌++◌, length, nat_lt, Option, Some, None, Result, Ok, Err, codes, if◌then◌else◌}
+use Rattle.std.specs.Prelude.{ℕ, ◌+◌, Bool, true, false, List, [], ◌++◌, length, nat_lt, Option, Some, None, Result, Ok, Err, codes, if◌then◌else◌}
 use Rattle.std.specs.Fmt.{decimal}
 use Rattle.edge_text.specs.Reading.{Listed, reading}
 use Rattle.flight_core.specs.declared.event.Illegal.{Illegal}
@@ -16,8 +16,9 @@ use Rattle.programs.specs.Tally.{tally_program}
 use Rattle.grid_format.specs.Checks.{GridFiles}
 use Rattle.grid_format.specs.Grid.{grid}
 use Rattle.partition.specs.Parts.{chunk_size}
-use Rattle.early_engine.specs.Passes.{bytes_of, passes}
+use Rattle.early_engine.specs.Passes.{primary_taken, secondary_taken}
 use Rattle.early_engine.specs.Report.{finished, report}
+use Rattle.early_engine.specs.declared.options.Mode.{Mode}
 use Rattle.early_engine.specs.declared.options.Show.TheVariants.{All}
 use Rattle.lumos_depot.specs.declared.depot.FileKind.{FileKind}
 use Rattle.lumos_depot.specs.declared.depot.FileKind.TheVariants as file
@@ -53,22 +54,26 @@ vertices_within words (Some n) = if nat_lt 268435456 n then Err (Vertices n) els
 abbrev pub limits_of : ListWords → Result TextLimits TooMany
 limits_of words = if nat_lt 256 words.parts then Err (Parts words.parts 256) else vertices_within words words.vertices
 
--- what a run writes, how it ends, and how many bytes it takes of Primary
+-- what a run writes, how it ends, and how many bytes its finished iterations take of Primary and of Secondary
 pub record Ran : Type 0 where
   pub text : List ℕ
   pub ending : Ending
-  pub taken : ℕ
+  pub primary : ℕ
+  pub secondary : ℕ
 
--- how many bytes a run with this ending takes of Primary: in each iteration that it finishes, those of the blocks that it reads
-abbrev pub run_bytes : Ending → Listed → ℕ → ℕ
-run_bytes end list parts = finished end * bytes_of list.edges (chunk_size list.vertices parts) (passes parts)
+abbrev pub ran_by : {V S : Type 0} → Program V S → List ℕ → ℕ → ℕ → Mode → Listed → Ran
+ran_by p name parts iterations mode list =
+    let end = ending p list.edges list.vertices iterations in
+    let c = chunk_size list.vertices parts in record {
+      text = report p name All mode list.edges list.vertices parts iterations;
+      ending = end;
+      primary = primary_taken mode list.edges c parts (finished end);
+      secondary = secondary_taken mode list.edges c parts (finished end);
+    }
 
-abbrev pub ran_by : {V S : Type 0} → Program V S → List ℕ → ℕ → ℕ → Listed → Ran
-ran_by p name parts iterations list = record { text = report p name All list.edges list.vertices parts iterations; ending = ending p list.edges list.vertices iterations; taken = run_bytes (ending p list.edges list.vertices iterations) list parts }
-
-abbrev pub ran_as : ProgramName → ℕ → ℕ → Listed → Ran
-ran_as Components parts iterations list = ran_by components_program (codes "components") parts iterations list
-ran_as Tally parts iterations list = ran_by tally_program (codes "tally") parts iterations list
+abbrev pub ran_as : ProgramName → ℕ → ℕ → Mode → Listed → Ran
+ran_as Components parts iterations mode list = ran_by components_program (codes "components") parts iterations mode list
+ran_as Tally parts iterations mode list = ran_by tally_program (codes "tally") parts iterations mode list
 
 abbrev pub ending_status : Ending → Status
 ending_status (over_in t v) = status.Range
@@ -82,20 +87,40 @@ ending_line (still_in t) = []
 ending_line (limit_at t) = []
 
 -- what a command comes to that nothing stops: its text, its status and fault line, the grid that it builds, if any,
--- whether its text is made of what the files of the grid give back, and how many bytes it takes of Primary
+-- whether its text is made of what the files of the grid give back, and how many bytes it takes of Primary and of Secondary
 pub record Did : Type 0 where
   pub text : List ℕ
   pub status : Status
   pub line : List ℕ
   pub built : Option GridFiles
   pub streamed : Bool
-  pub taken : ℕ
+  pub primary : ℕ
+  pub secondary : ℕ
 
+-- a build copies from Primary what the grid's Secondary has, and a run then takes what its iterations read
 abbrev pub did_run : (Listed → Ran) → ℕ → Listed → Did
-did_run ran parts list = record { text = (ran list).text; status = ending_status (ran list).ending; line = ending_line (ran list).ending; built = Some (grid list.edges list.vertices parts); streamed = true; taken = (ran list).taken }
+did_run ran parts list =
+    let files = grid list.edges list.vertices parts in record {
+      text = (ran list).text;
+      status = ending_status (ran list).ending;
+      line = ending_line (ran list).ending;
+      built = Some files;
+      streamed = true;
+      primary = length files.secondary + (ran list).primary;
+      secondary = (ran list).secondary;
+    }
 
 abbrev pub did_build : ℕ → Listed → Did
-did_build parts list = record { text = grid_line list.vertices (length list.edges) parts; status = status.Done; line = []; built = Some (grid list.edges list.vertices parts); streamed = false; taken = 0 }
+did_build parts list =
+    let files = grid list.edges list.vertices parts in record {
+      text = grid_line list.vertices (length list.edges) parts;
+      status = status.Done;
+      line = [];
+      built = Some files;
+      streamed = false;
+      primary = length files.secondary;
+      secondary = 0;
+    }
 
 -- what is done with a list that was read, or its fault
 abbrev pub done_with : (Listed → Did) → Result Listed TextFault → Result Did Stop
@@ -108,7 +133,7 @@ done_within command (Err many) input = Err (stop.TooMany many)
 
 -- what a replay writes, unless an event is refused
 abbrev pub did_replay : Result (List ℕ) Stop → Result Did Stop
-did_replay (Ok text) = Ok (record { text = text; status = status.Done; line = []; built = None; streamed = false; taken = 0 })
+did_replay (Ok text) = Ok (record { text = text; status = status.Done; line = []; built = None; streamed = false; primary = 0; secondary = 0 })
 did_replay (Err why) = Err why
 
 -- what a replay of events over a list writes: the iterations from 0 to 1024 are shown
@@ -125,7 +150,7 @@ abbrev pub did_within : ProgramName → ℕ → List ℕ → Result Did Stop
 did_within program parts input = if nat_lt 64 parts then Err (stop.TooMany (Parts parts 64)) else replay_with program parts (streamed 1099511627776 input)
 
 abbrev pub answer_to : Result Request UsageFault → List ℕ → Result Did Stop
-answer_to (Ok (Run program directory iterations words)) input = done_within (did_run (ran_as program words.parts iterations) words.parts) (limits_of words) input
+answer_to (Ok (Run program directory iterations mode words)) input = done_within (did_run (ran_as program words.parts iterations mode) words.parts) (limits_of words) input
 answer_to (Ok (Build directory words)) input = done_within (did_build words.parts) (limits_of words) input
 answer_to (Ok (Replay program parts)) input = did_within program parts input
 answer_to (Err fault) input = Err (stop.Usage fault)
@@ -140,7 +165,7 @@ place_within (Ok limits) name = Some name
 place_within (Err many) name = None
 
 abbrev pub place_for : List (List ℕ) → Result Request UsageFault → Option (List ℕ)
-place_for words (Ok (Run program directory iterations list)) = place_within (limits_of list) (name_at words directory)
+place_for words (Ok (Run program directory iterations mode list)) = place_within (limits_of list) (name_at words directory)
 place_for words (Ok (Build directory list)) = place_within (limits_of list) (name_at words directory)
 place_for words (Ok (Replay program parts)) = None
 place_for words (Err fault) = None
@@ -175,6 +200,7 @@ usage_text usage.UnknownProgram = codes "unknown program"
 usage_text usage.EmptyDirectory = codes "empty directory"
 usage_text usage.BadNumber = codes "bad number"
 usage_text usage.NumberOutside = codes "number outside its range"
+usage_text usage.BadMode = codes "bad mode"
 
 abbrev pub option_text : Option OptionName → List ℕ
 option_text None = []
@@ -234,18 +260,20 @@ stop_line stop.Write = codes "lumos: write fault\n"
 stop_line (stop.Damaged file place found) = codes "lumos: damaged: " ++ file_text file ++ codes " at " ++ decimal place ++ codes " found " ++ decimal found ++ codes "\n"
 
 -- a status, what is written to `out`, a fault line, and the grid that is built, if one is; else the grid's files stay.
--- A text that is streamed is made of what the files of the grid give back, of which so many bytes of Primary are taken.
+-- A text that is streamed is made of what the files of the grid give back. So many bytes are taken of Primary and of
+-- Secondary.
 pub record Outcome : Type 0 where
   pub status : Status
   pub out : List ℕ
   pub err : List ℕ
   pub built : Option GridFiles
   pub streamed : Bool
-  pub taken : ℕ
+  pub primary : ℕ
+  pub secondary : ℕ
 
 abbrev pub outcome_of : Result Did Stop → Outcome
-outcome_of (Ok did) = record { status = did.status; out = did.text; err = did.line; built = did.built; streamed = did.streamed; taken = did.taken }
-outcome_of (Err why) = record { status = stop_status why; out = []; err = stop_line why; built = None; streamed = false; taken = 0 }
+outcome_of (Ok did) = record { status = did.status; out = did.text; err = did.line; built = did.built; streamed = did.streamed; primary = did.primary; secondary = did.secondary }
+outcome_of (Err why) = record { status = stop_status why; out = []; err = stop_line why; built = None; streamed = false; primary = 0; secondary = 0 }
 
 -- the outcome of words and input
 abbrev pub outcome : List (List ℕ) → List ℕ → Outcome

@@ -1,11 +1,12 @@
 // A grid that is built.
-ghost use Rattle.std.specs.Prelude.{◌≡◌, ◌≢◌, ◌≤◌, ◌<◌, ℕ, List, Err, IfOk, Option, None, Some};
+ghost use Rattle.std.specs.Prelude.{◌≡◌, ◌≢◌, ◌≤◌, ◌<◌, ℕ, List, length, Err, IfOk, IfSome, OnOk, Option, None, Some};
 ghost use Rattle.lumos_depot.specs.Causes.{HasCause, Rose};
 ghost use Rattle.lumos_depot.specs.Streams.{Writes};
 ghost use Rattle.lumos_depot.specs.declared.depot.FileKind.{FileKind};
 ghost use Rattle.edge_text.specs.Reading.{reading};
 ghost use Rattle.lumos_top.specs.Outcome.{did_build, done_with};
 ghost use Rattle.lumos_top.specs.Report.{grid_line};
+ghost use Rattle.grid_build.specs.Outside.{RoseBy};
 ghost use Rattle.grid_format.specs.Heads.{IsHead};
 ghost use Rattle.lumos_top.specs.Running.{HasDone, HasGridBuilt, IsAttached, LeavesRuns, TakesAs, TextFits, stop_of};
 
@@ -52,7 +53,7 @@ fn build_stop(fault: BuildFault) -> Stop
 }
 
 /// Attaches a directory, and builds in it the grid of a list that is read within the limits of its text, over so many
-/// parts, from 1 to 256.
+/// parts, from 1 to 256. Where the files are told, it takes of Primary as many bytes as Secondary then has, which it copies.
 ///
 /// It stops by `Text` exactly where the input has that fault, by `Read` and `Depot` only where the faults of the input and
 /// the depot rose, and by `Memory` for no cause of its own.
@@ -77,7 +78,8 @@ pub fn build_files<I: Source, D: Depot>(
       new_out = out;
     }) result }
     ensures limits { IfOk result IsHead }
-    ensures taken { D.taken depot.new FileKind.Primary ≡ D.taken depot.old FileKind.Primary }
+    ensures copied { OnOk result (IfSome (D.holds depot.new FileKind.Secondary) (λ file. RoseBy (D.taken depot.old FileKind.Primary) (D.taken depot.new FileKind.Primary) (length file))) }
+    ensures unread { D.taken depot.new FileKind.Secondary ≡ D.taken depot.old FileKind.Secondary }
     ensures leaves { LeavesRuns D.holds D.taken D.stored depot.old depot.new }
     ensures attached { IsAttached (Some path.now) (D.attached depot.new) result }
     ensures input_later { I.faults input.old ≤ I.faults input.new }
@@ -132,7 +134,7 @@ pub fn build_grid<I: Source, D: Depot, O: Sink>(
       new_out = O.written out.new;
     }) result }
     ensures takes { (bytes : List ℕ) → I.left input.old ≡ Some bytes
-        → TakesAs (done_with (did_build parts) (reading text bytes)) (D.holds depot.old) (D.taken depot.old FileKind.Primary) (D.taken depot.new FileKind.Primary) result }
+        → TakesAs (done_with (did_build parts) (reading text bytes)) (D.holds depot.old) (D.taken depot.old) (D.taken depot.new) result }
     ensures leaves { LeavesRuns D.holds D.taken D.stored depot.old depot.new }
     ensures attached { IsAttached (Some path.now) (D.attached depot.new) result }
     ensures input_later { I.faults input.old ≤ I.faults input.new }

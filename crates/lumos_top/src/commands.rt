@@ -1,16 +1,16 @@
 // The commands, by their words.
 ghost use Rattle.std.specs.Prelude.{◌≡◌, ◌≤◌, ◌<◌, ℕ, List, Option, IfOk, IfSome, Ok, Err, None, length};
 ghost use Rattle.lumos_depot.specs.Causes.{Rose};
-ghost use Rattle.lumos_depot.specs.declared.depot.FileKind.{FileKind};
 ghost use Rattle.lumos_top.specs.Outcome.{answer, answer_to, directory, limits_of, place_within};
 ghost use Rattle.lumos_top.specs.Running.{EndShown, EndsOn, IsAttached, LeavesRuns, Shown, StopsAtWords, TakesAs, TextFits, UnlessGrid};
 ghost use Rattle.lumos_top.specs.Words.{ListFits, RequestFits, name_at, request, texts_of};
 
 use crate::building::build_grid;
 use crate::replaying::replay;
-use crate::running::{RunLimits, run};
+use crate::running::{RunPlan, run};
 use crate::status::{Completed, Stop, TooMany};
 use crate::words::{ListWords, ProgramName, Request, name_of, read_words};
+use early_engine::Mode;
 use edge_text::TextLimits;
 use lumos_depot::{Depot, Sink, Source};
 use std::alloc::Global;
@@ -56,13 +56,15 @@ fn limits_of(words: &ListWords) -> Result<TextLimits, TooMany>
     }
 }
 
-// Runs a program over the grid of a list in the directory that a word names, or in `.`, unless a stated number is too great.
+// Runs a program in a mode over the grid of a list in the directory that a word names, or in `.`, unless a stated number is
+// too great.
 fn run_within<I: Source, D: Depot, O: Sink>(
     alloc: Global,
     words: &[String],
     program: ProgramName,
     directory: Option<usize>,
     iterations: u32,
+    mode: Mode,
     list: ListWords,
     input: &mut I,
     depot: &mut D,
@@ -73,8 +75,8 @@ fn run_within<I: Source, D: Depot, O: Sink>(
     requires some { 1 ≤ iterations }
     requires few { iterations ≤ 1000000 }
     requires fits { ListFits list }
-    ensures usage { StopsAtWords (Ok (Request.Run program directory iterations list)) result }
-    ensures done { EndsOn (answer_to (Ok (Request.Run program directory iterations list))) (record {
+    ensures usage { StopsAtWords (Ok (Request.Run program directory iterations mode list)) result }
+    ensures done { EndsOn (answer_to (Ok (Request.Run program directory iterations mode list))) (record {
       left_old = I.left input.old;
       left_new = I.left input.new;
       was = D.holds depot.old;
@@ -83,7 +85,7 @@ fn run_within<I: Source, D: Depot, O: Sink>(
       new_out = O.written out.new;
     }) result }
     ensures takes { (bytes : List ℕ) → I.left input.old ≡ Some bytes
-        → TakesAs (answer_to (Ok (Request.Run program directory iterations list)) bytes) (D.holds depot.old) (D.taken depot.old FileKind.Primary) (D.taken depot.new FileKind.Primary) result }
+        → TakesAs (answer_to (Ok (Request.Run program directory iterations mode list)) bytes) (D.holds depot.old) (D.taken depot.old) (D.taken depot.new) result }
     ensures leaves { LeavesRuns D.holds D.taken D.stored depot.old depot.new }
     ensures shown { EndShown program result }
     ensures attached { IsAttached (place_within (limits_of list) (name_at (texts_of words.now) directory)) (D.attached depot.new) result }
@@ -97,11 +99,12 @@ fn run_within<I: Source, D: Depot, O: Sink>(
     match limits_of(&list) {
         Ok(text) => {
             let path = name_of(words, directory);
-            let limits = RunLimits {
+            let plan = RunPlan {
                 parts: list.parts as u32,
                 iterations,
+                mode,
             };
-            run(alloc, path, program, limits, text, input, depot, out)
+            run(alloc, path, program, plan, text, input, depot, out)
         }
         Err(many) => Err(Stop::TooMany(many)),
     }
@@ -130,7 +133,7 @@ fn build_within<I: Source, D: Depot, O: Sink>(
       new_out = O.written out.new;
     }) result }
     ensures takes { (bytes : List ℕ) → I.left input.old ≡ Some bytes
-        → TakesAs (answer_to (Ok (Request.Build directory list)) bytes) (D.holds depot.old) (D.taken depot.old FileKind.Primary) (D.taken depot.new FileKind.Primary) result }
+        → TakesAs (answer_to (Ok (Request.Build directory list)) bytes) (D.holds depot.old) (D.taken depot.old) (D.taken depot.new) result }
     ensures leaves { LeavesRuns D.holds D.taken D.stored depot.old depot.new }
     ensures attached { IsAttached (place_within (limits_of list) (name_at (texts_of words.now) directory)) (D.attached depot.new) result }
     ensures input_later { I.faults input.old ≤ I.faults input.new }
@@ -173,7 +176,7 @@ pub fn perform<I: Source, D: Depot, O: Sink>(
       new_out = O.written out.new;
     }) result }
     ensures takes { (bytes : List ℕ) → I.left input.old ≡ Some bytes
-        → TakesAs (answer (texts_of words.now) bytes) (D.holds depot.old) (D.taken depot.old FileKind.Primary) (D.taken depot.new FileKind.Primary) result }
+        → TakesAs (answer (texts_of words.now) bytes) (D.holds depot.old) (D.taken depot.old) (D.taken depot.new) result }
     ensures leaves { LeavesRuns D.holds D.taken D.stored depot.old depot.new }
     ensures shown { Shown (request (texts_of words.now)) result }
     ensures attached { IsAttached (directory (texts_of words.now)) (D.attached depot.new) result }
@@ -191,9 +194,10 @@ pub fn perform<I: Source, D: Depot, O: Sink>(
                 program,
                 directory,
                 iterations,
+                mode,
                 list,
             } => run_within(
-                alloc, words, program, directory, iterations, list, input, depot, out,
+                alloc, words, program, directory, iterations, mode, list, input, depot, out,
             ),
             Request::Build { directory, list } => {
                 build_within(alloc, words, directory, list, input, depot, out)

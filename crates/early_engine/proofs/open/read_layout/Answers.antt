@@ -1,7 +1,11 @@
-use Rattle.std.proofs.Common.{sym, ◌∙◌}
+use Rattle.std.proofs.Common.{◌≤◌, length, sym, ◌∙◌}
 use Rattle.grid_format.specs.Grid.{grid}
 use Rattle.early_engine.specs.Engines.{cut_in}
+use Rattle.early_engine.specs.Grids.{bytes_in}
+use Rattle.early_engine.specs.Passes.{file_of}
 use Rattle.early_engine.proofs.GridLemmas.{on_grid_same}
+use Rattle.early_engine.proofs.Moving.{told_same}
+use Rattle.early_engine.proofs.OpenLemmas.{blocks_fit}
 use Rattle.early_engine.proofs.open.read_layout.Goals as goal
 
 pub returns-in-Ok-clause-told : goal.returns-in-Ok-clause-told
@@ -26,3 +30,9 @@ returns-in-Err-clause-head g c edges limits held =
     let read = c.grids_are_read.ensures edges info.vertices info.parts limits in
     let same = sym (c.requires.accepted (grid edges info.vertices info.parts) held) ∙ read.head in
     cc
+
+pub returns-in-Ok-clause-blocks_fit : goal.returns-in-Ok-clause-blocks_fit
+returns-in-Ok-clause-blocks_fit g c kind =
+    let told = g.D.Depot.holds c.args.depot.now in
+    told_same (told (file_of kind)) (g.D.Depot.holds c.read.new.depot (file_of kind)) (λ file. bytes_in kind c.in-Ok.table ≤ length file) (c.in-Ok.ensures.reads.contents (file_of kind))
+    (blocks_fit told (g.D.Depot.tells_all c.args.depot.now) c.args.info c.requires.accepted c.in-Ok.table c.in-Ok.ensures.parts c.in-Ok.ensures.sum c.in-Ok.ensures.told kind)

@@ -1,14 +1,15 @@
 use Rattle.std.proofs.Common.{◌≡◌, ◌+◌, ℕ, suc, Ok, Err, sym, ap, ◌∙◌, subst, arith}
 use Rattle.lumos_depot.specs.Streams.{after_told}
-use Rattle.lumos_depot.specs.declared.depot.FileKind.TheVariants.{Primary}
+use Rattle.lumos_depot.specs.declared.depot.FileKind.TheVariants.{Primary, Secondary}
 use Rattle.value_files.specs.Outside.{RoseBy}
 use Rattle.early_engine.specs.Engines.{IsStanding, cut_in}
+use Rattle.early_engine.specs.Passes.{kind_of}
 use Rattle.early_engine.specs.Runs.{RunComes}
 use Rattle.early_engine.specs.Turns.{HasTurned, phase_after}
 use Rattle.early_engine.specs.declared.options.RunOptions.{RunOptions}
-use Rattle.early_engine.proofs.Moving.{reads_then}
 use Rattle.early_engine.proofs.Repeats.{texts}
-use Rattle.early_engine.proofs.RunLemmas.{bytes_in, end_of, ended_comes, going_text, key_of, later_of, lines_of, rose_next, same_key, same_run, stopped_comes}
+use Rattle.early_engine.proofs.RunLemmas.{end_of, ended_comes, going_text, key_of, later_of, lines_of, primary_at, same_key, same_run, secondary_at, stopped_comes}
+use Rattle.early_engine.proofs.TakenLemmas.{infos_stay, rose_more, streams_blocks, streams_then}
 use Rattle.early_engine.proofs.run.run_turns.Goals as goal
 
 pub returns-in-Ok-Ended-clause-told : goal.returns-in-Ok-Ended-clause-told
@@ -23,12 +24,12 @@ returns-in-Ok-Ended-clause-told g c edges stands =
     let key = same_key c.args.engine.now w c.loop-turn.invariant.same in
     let here = subst (λ k. IsStanding (model k.program) edges told w) (sym key) run.stands in
     let text = subst (λ k. now ≡ after_told written (texts (lines_of model edges k) w.finished)) (sym key) run.text in
-    let turned = subst (HasTurned (model w.program) w.options.show edges (cut_in w.info) w.options.iterations w.finished c.turn.new.self.values now after) c.in-Ok-Ended.field-0-is (c.in-Ok-Ended.ensures.told edges here) in
+    let turned = subst (HasTurned (model w.program) w.options.show w.options.mode edges (cut_in w.info) w.options.iterations w.finished c.turn.new.self.values c.turn.new.self.early now after) c.in-Ok-Ended.field-0-is (c.in-Ok-Ended.ensures.told edges here) in
     subst (λ k. RunComes (end_of model edges k) (later_of model edges k) written after (Ok c.in-Ok-Ended.ending)) key
-    (ended_comes (model w.program) w.options.show edges (cut_in w.info) w.options.iterations w.finished here.goes_on written now after c.turn.new.self.values c.in-Ok-Ended.ending text turned)
+    (ended_comes (model w.program) w.options.show w.options.mode edges (cut_in w.info) w.options.iterations w.finished here.goes_on written now after c.turn.new.self.values c.turn.new.self.early c.in-Ok-Ended.ending text turned)
 
-pub returns-in-Ok-Ended-clause-taken : goal.returns-in-Ok-Ended-clause-taken
-returns-in-Ok-Ended-clause-taken g c edges stands =
+pub returns-in-Ok-Ended-clause-primary : goal.returns-in-Ok-Ended-clause-primary
+returns-in-Ok-Ended-clause-primary g c edges stands =
     let model = g.G.VertexProgram.model in
     let w = c.loop-turn.engine in
     let told = g.D.Depot.holds c.loop-turn.depot in
@@ -37,10 +38,25 @@ returns-in-Ok-Ended-clause-taken g c edges stands =
     let run = c.loop-turn.invariant.running edges stands in
     let key = same_key c.args.engine.now w c.loop-turn.invariant.same in
     let here = subst (λ k. IsStanding (model k.program) edges told w) (sym key) run.stands in
-    let turned = subst (HasTurned (model w.program) w.options.show edges (cut_in w.info) w.options.iterations w.finished c.turn.new.self.values now after) c.in-Ok-Ended.field-0-is (c.in-Ok-Ended.ensures.told edges here) in
+    let turned = subst (HasTurned (model w.program) w.options.show w.options.mode edges (cut_in w.info) w.options.iterations w.finished c.turn.new.self.values c.turn.new.self.early now after) c.in-Ok-Ended.field-0-is (c.in-Ok-Ended.ensures.told edges here) in
     let last : c.in-Ok-Ended.ending.iterations ≡ suc w.finished = turned.tells.1 in
-    rose_next model edges (key_of c.args.engine.now) w.finished c.in-Ok-Ended.ending.iterations _ _ _ (omega arith) run.rose
-    (subst (λ k. RoseBy (g.D.Depot.taken c.loop-turn.depot Primary) (g.D.Depot.taken c.turn.new.depot Primary) (bytes_in model edges k)) key (c.in-Ok-Ended.ensures.taken edges here))
+    rose_more (primary_at model edges (key_of c.args.engine.now)) w.finished c.in-Ok-Ended.ending.iterations _ _ _ (omega arith) run.primary
+    (subst (λ k. RoseBy (g.D.Depot.taken c.loop-turn.depot Primary) (g.D.Depot.taken c.turn.new.depot Primary) (primary_at model edges k (w.finished + 1))) key (c.in-Ok-Ended.ensures.primary edges here))
+
+pub returns-in-Ok-Ended-clause-secondary : goal.returns-in-Ok-Ended-clause-secondary
+returns-in-Ok-Ended-clause-secondary g c edges stands =
+    let model = g.G.VertexProgram.model in
+    let w = c.loop-turn.engine in
+    let told = g.D.Depot.holds c.loop-turn.depot in
+    let now = g.O.Sink.written c.loop-turn.out in
+    let after = g.O.Sink.written c.turn.new.out in
+    let run = c.loop-turn.invariant.running edges stands in
+    let key = same_key c.args.engine.now w c.loop-turn.invariant.same in
+    let here = subst (λ k. IsStanding (model k.program) edges told w) (sym key) run.stands in
+    let turned = subst (HasTurned (model w.program) w.options.show w.options.mode edges (cut_in w.info) w.options.iterations w.finished c.turn.new.self.values c.turn.new.self.early now after) c.in-Ok-Ended.field-0-is (c.in-Ok-Ended.ensures.told edges here) in
+    let last : c.in-Ok-Ended.ending.iterations ≡ suc w.finished = turned.tells.1 in
+    rose_more (secondary_at model edges (key_of c.args.engine.now)) w.finished c.in-Ok-Ended.ending.iterations _ _ _ (omega arith) run.secondary
+    (subst (λ k. RoseBy (g.D.Depot.taken c.loop-turn.depot Secondary) (g.D.Depot.taken c.turn.new.depot Secondary) (secondary_at model edges k (w.finished + 1))) key (c.in-Ok-Ended.ensures.secondary edges here))
 
 pub returns-in-Err-clause-told : goal.returns-in-Err-clause-told
 returns-in-Err-clause-told g c edges stands =
@@ -55,7 +71,7 @@ returns-in-Err-clause-told g c edges stands =
     let here = subst (λ k. IsStanding (model k.program) edges told w) (sym key) run.stands in
     let text = subst (λ k. now ≡ after_told written (texts (lines_of model edges k) w.finished)) (sym key) run.text in
     subst (λ k. RunComes (end_of model edges k) (later_of model edges k) written after (Err c.in-Err.fault)) key
-    (stopped_comes (model w.program) w.options.show edges (cut_in w.info) w.options.iterations w.finished here.goes_on written now after c.turn.new.self.values c.in-Err.fault text (c.in-Err.ensures.told edges here))
+    (stopped_comes (model w.program) w.options.show w.options.mode edges (cut_in w.info) w.options.iterations w.finished here.goes_on written now after c.turn.new.self.values c.turn.new.self.early c.in-Err.fault text (c.in-Err.ensures.told edges here))
 
 pub loop-turn-preserved : goal.loop-turn-preserved
 loop-turn-preserved g c =
@@ -67,8 +83,11 @@ loop-turn-preserved g c =
     let going = next.phase ∙ ap phase_after c.in-Ok-Going.field-0-is in
     let same = same_run c.args.engine.now w new kept.same next.same in
     let low = next.left going in
+    let kind = kind_of w.options.mode (w.finished + 1) in
     record {
-      reads = reads_then g.D.Depot.holds g.D.Depot.taken g.D.Depot.stored g.D.Depot.faults g.D.Depot.attached Primary _ _ _ kept.reads next.reads;
+      streams = streams_then g.D.Depot.holds g.D.Depot.taken g.D.Depot.stored g.D.Depot.faults g.D.Depot.attached _ _ _ kept.streams
+          (streams_blocks g.D.Depot.holds g.D.Depot.taken g.D.Depot.stored g.D.Depot.faults g.D.Depot.attached kind _ _ next.reads);
+      infos = infos_stay g.D.Depot.holds g.D.Depot.taken g.D.Depot.stored g.D.Depot.faults g.D.Depot.attached kind _ _ next.reads ∙ kept.infos;
       later = omega (arith, kept.later, next.later);
       going = going;
       same = same;
@@ -83,12 +102,14 @@ loop-turn-preserved g c =
           let key = same_key c.args.engine.now w kept.same in
           let here = subst (λ k. IsStanding (model k.program) edges told w) (sym key) run.stands in
           let text = subst (λ k. now ≡ after_told written (texts (lines_of model edges k) w.finished)) (sym key) run.text in
-          let turned = subst (HasTurned (model w.program) w.options.show edges (cut_in w.info) w.options.iterations w.finished new.values now after) c.in-Ok-Going.field-0-is (next.told edges here) in
-          let written_on = going_text (model w.program) w.options.show edges (cut_in w.info) w.options.iterations w.finished here.goes_on written now after new.values text turned in
+          let turned = subst (HasTurned (model w.program) w.options.show w.options.mode edges (cut_in w.info) w.options.iterations w.finished new.values new.early now after) c.in-Ok-Going.field-0-is (next.told edges here) in
+          let written_on = going_text (model w.program) w.options.show w.options.mode edges (cut_in w.info) w.options.iterations w.finished here.goes_on written now after new.values new.early text turned in
           record {
             stands = subst (λ k. IsStanding (model k.program) edges (g.D.Depot.holds c.turn.new.depot) new) key (c.turn.ensures.stands edges here (c.in-Ok-Going.is ∙ ap Ok c.in-Ok-Going.field-0-is));
             text = subst (λ k. after ≡ after_told written (texts (lines_of model edges k) new.finished)) key (written_on ∙ ap (λ (t : ℕ). after_told written (texts (lines_of model edges (key_of w)) t)) (sym next.finished));
-            rose = rose_next model edges (key_of c.args.engine.now) w.finished new.finished _ _ _ next.finished run.rose
-                (subst (λ k. RoseBy (g.D.Depot.taken c.loop-turn.depot Primary) (g.D.Depot.taken c.turn.new.depot Primary) (bytes_in model edges k)) key (next.taken edges here));
+            primary = rose_more (primary_at model edges (key_of c.args.engine.now)) w.finished new.finished _ _ _ next.finished run.primary
+                (subst (λ k. RoseBy (g.D.Depot.taken c.loop-turn.depot Primary) (g.D.Depot.taken c.turn.new.depot Primary) (primary_at model edges k (w.finished + 1))) key (next.primary edges here));
+            secondary = rose_more (secondary_at model edges (key_of c.args.engine.now)) w.finished new.finished _ _ _ next.finished run.secondary
+                (subst (λ k. RoseBy (g.D.Depot.taken c.loop-turn.depot Secondary) (g.D.Depot.taken c.turn.new.depot Secondary) (secondary_at model edges k (w.finished + 1))) key (next.secondary edges here));
           };
     }

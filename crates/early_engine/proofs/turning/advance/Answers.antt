@@ -1,17 +1,19 @@
-use Rattle.std.proofs.Common.{◌∙◌, sym, subst}
-use Rattle.std.proofs.lemmas.List.{take_at}
-use Rattle.lumos_law.specs.Sync.{values, IsChunk}
+use Rattle.partition.specs.Parts.{chunk_of}
+use Rattle.early_engine.specs.Passes.{kind_of}
+use Rattle.early_engine.proofs.TakenLemmas.{primary_rose, secondary_rose}
 use Rattle.early_engine.proofs.turning.advance.Goals as goal
 
 pub returns-in-Ok-clause-made : goal.returns-in-Ok-clause-made
-returns-in-Ok-clause-made g c edges t grid chunk =
-    let p = g.G.VertexProgram.model c.args.program.now in
-    let before = subst (IsChunk (values p edges t) 0) (sym c.deref.ensures.value) chunk in
-    let made = c.in-Ok.ensures.made edges t grid before in
-    let put = c.iterate-end.auto.after ∙ c.deref_mut-3.ensures.len in
-    rw c.swap.ensures.x_after (rw (take_at c.iterate-end.new.after _ _ put) made)
+returns-in-Ok-clause-made g c edges done grid at kept = rw c.swap.ensures.x_after (c.in-Ok.ensures.made edges done grid at kept)
 
-pub returns-in-Err-clause-made : goal.returns-in-Err-clause-made
-returns-in-Err-clause-made g c edges t grid chunk =
-    let p = g.G.VertexProgram.model c.args.program.now in
-    c.in-Err.ensures.made edges t grid (subst (IsChunk (values p edges t) 0) (sym c.deref.ensures.value) chunk)
+pub returns-in-Ok-clause-primary : goal.returns-in-Ok-clause-primary
+returns-in-Ok-clause-primary g c edges grid =
+    let cut = c.args.layout.now.parts in
+    primary_rose (kind_of c.args.options.mode c.args.t) edges (chunk_of cut) cut.parts (g.D.Depot.taken c.args.depot.now) (g.D.Depot.taken c.iterate.new.depot)
+    (c.in-Ok.ensures.taken edges grid) c.in-Ok.ensures.reads.taken
+
+pub returns-in-Ok-clause-secondary : goal.returns-in-Ok-clause-secondary
+returns-in-Ok-clause-secondary g c edges grid =
+    let cut = c.args.layout.now.parts in
+    secondary_rose (kind_of c.args.options.mode c.args.t) edges (chunk_of cut) cut.parts (g.D.Depot.taken c.args.depot.now) (g.D.Depot.taken c.iterate.new.depot)
+    (c.in-Ok.ensures.taken edges grid) c.in-Ok.ensures.reads.taken

@@ -1,13 +1,14 @@
 use Rattle.std.proofs.Common.{◌≡◌, ◌∙◌, ℕ, List, All, Some, flat_map, refl, sym, ap, subst, arith}
 use Rattle.std.specs.Prelude.{IfSome}
 use Rattle.lumos_base.specs.Records.{edge_bytes}
-use Rattle.lumos_depot.specs.declared.depot.FileKind.TheVariants.{Spool, Values}
+use Rattle.lumos_depot.specs.declared.depot.FileKind.TheVariants.{Primary, Secondary, Spool, Values}
 use Rattle.partition.specs.Blocks.{IsBelow}
 use Rattle.grid_format.specs.Grid.{grid, grid_head}
 use Rattle.grid_format.specs.Heads.{IsHead}
 use Rattle.grid_build.specs.Built.{HasFiles, parts_of}
 use Rattle.grid_build.specs.Steps.{IsListed}
 use Rattle.grid_build.proofs.Building.{AreLimits, files_by, leaves_then, list_within, spool_kept, spool_leaves, spool_listed, steps_by, stopped_outside}
+use Rattle.grid_build.proofs.CopyLemmas.{copies_as}
 use Rattle.grid_build.proofs.Moving.{told_some}
 use Rattle.grid_build.proofs.builder.build.Goals as goal
 
@@ -78,6 +79,12 @@ returns-in-Ok-write_grid-clause-grid g c =
         read.reads.1,
       );
     }
+
+pub returns-in-Ok-write_grid-clause-copied : goal.returns-in-Ok-write_grid-clause-copied
+returns-in-Ok-write_grid-clause-copied g c =
+    copies_as (g.D.Depot.taken c.spool_list.new.depot) (g.D.Depot.taken c.write_grid.new.depot) (g.D.Depot.stored c.spool_list.new.depot) (g.D.Depot.stored c.write_grid.new.depot) (g.D.Depot.taken c.args.depot.now) (g.D.Depot.taken c.write_grid.new.depot) (g.D.Depot.stored c.args.depot.now) (g.D.Depot.stored c.write_grid.new.depot) _ _
+    (sym (c.spool_list.ensures.moves.taken Primary (λ same. absurd (cc)) ∙ c.size_file.ensures.taken Primary)) refl
+    (sym (c.spool_list.ensures.moves.stored Secondary (λ same. absurd (cc)) ∙ c.size_file.ensures.stored Secondary)) refl refl c.in-Ok-write_grid.ensures.copied
 
 pub returns-in-Ok-write_grid-clause-limits : goal.returns-in-Ok-write_grid-clause-limits
 returns-in-Ok-write_grid-clause-limits g c =

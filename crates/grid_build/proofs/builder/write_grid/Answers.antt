@@ -1,5 +1,5 @@
 use Rattle.std.proofs.Common.{◌≡◌, ◌<◌, ◌∙◌, [], true, Some, sym, ap, subst}
-use Rattle.std.specs.Prelude.{IfSome, is_some}
+use Rattle.std.specs.Prelude.{is_some}
 use Rattle.lumos_depot.specs.declared.depot.FileKind.{FileKind}
 use Rattle.lumos_depot.specs.declared.depot.FileKind.TheVariants.{Meta, Primary, Secondary, Info, Values, Spool}
 use Rattle.partition.specs.Parts.{chunk_of}
@@ -8,6 +8,7 @@ use Rattle.grid_format.specs.Heads.{meta_bytes}
 use Rattle.grid_format.specs.declared.head.GridInfo.{GridInfo}
 use Rattle.grid_build.specs.Passes.{IsSpool}
 use Rattle.grid_build.proofs.Building.{listed_length, told_is, told_map}
+use Rattle.grid_build.proofs.CopyLemmas.{copies_as}
 use Rattle.grid_build.proofs.NumberLemmas.{counts_are}
 use Rattle.grid_build.proofs.builder.write_grid.Goals as goal
 
@@ -35,7 +36,13 @@ returns-clause-files g c = λ list kept whole.
     record {
       meta_file = told_map (was Meta) (is Meta) _ (told_before Meta) (subst (λ bytes. is Meta ≡ Some bytes) meta (told_is (is Meta) _ (told Meta) c.in_ok-complete.ensures.meta));
       primary_file = told_map (was Primary) (is Primary) _ (told_before Primary) (c.complete.ensures.primary ∙ filled.primary_bytes);
-      secondary_file = told_map (was Secondary) (is Secondary) _ (told_before Secondary) (told_is (is Secondary) [] (told Secondary) (subst (λ o. IfSome o (λ file. file ≡ [])) (sym c.complete.ensures.secondary) c.in_ok-fill.ensures.empty.secondary_left));
+      secondary_file = told_map (was Secondary) (is Secondary) _ (told_before Secondary) (c.complete.ensures.secondary ∙ filled.secondary_bytes);
       info_file = told_map (was Info) (is Info) _ (told_before Info) (c.complete.ensures.info ∙ filled.info_bytes_are);
       spool_file = told_map (was Spool) (is Spool) [] (told_before Spool) (told_is (is Spool) [] (told Spool) c.in_ok-complete.ensures.spool);
     }
+
+pub returns-clause-copied : goal.returns-clause-copied
+returns-clause-copied g c =
+    copies_as (g.D.Depot.taken c.prepare.new.depot) (g.D.Depot.taken c.fill.new.depot) (g.D.Depot.stored c.prepare.new.depot) (g.D.Depot.stored c.fill.new.depot) (g.D.Depot.taken c.args.depot.now) (g.D.Depot.taken c.complete.new.depot) (g.D.Depot.stored c.args.depot.now) (g.D.Depot.stored c.complete.new.depot) _ _
+    (sym (c.prepare.ensures.taken Primary (λ same. absurd (cc)))) (c.complete.ensures.taken Primary)
+    (sym (c.prepare.ensures.stored Secondary)) (c.complete.ensures.stored Secondary (λ same. absurd (cc))) c.complete.ensures.secondary c.in_ok-fill.ensures.copied

@@ -1,4 +1,4 @@
-use Rattle.std.proofs.Common.{◌≡◌, ℕ, ◌*◌, List, length, sum, refl, ap, ◌+◌, ◌∙◌, arith}
+use Rattle.std.proofs.Common.{◌≡◌, ℕ, ◌*◌, List, length, sum, refl, sym, ap, ◌+◌, ◌∙◌, arith}
 use Rattle.std.specs.List.{range_with_len}
 use Rattle.std.proofs.lemmas.List.Sorted.{length_permutation}
 use Rattle.lumos_base.specs.Records.{edge_bytes, info_bytes}
@@ -10,6 +10,8 @@ use Rattle.grid_format.specs.Checks.{counted}
 use Rattle.grid_format.specs.Grid.{HasGrid, IsRead, block_counts, grid, grid_head, leaving}
 use Rattle.grid_format.proofs.BlockPlaces.{length-each, length-range}
 use Rattle.grid_format.proofs.GridBlocks.{count_is, length-counts, place_is, sum-counts}
+use Rattle.grid_format.specs.Tables.{low_edges}
+use Rattle.grid_format.proofs.LowBlocks.{length-low, low_place_is}
 use Rattle.grid_format.proofs.MetaLemmas.{counted_all, counts_read, fields_read, head_whole, length-meta}
 use Rattle.grid_format.proofs.laws.grids_are_read.Goals as goal
 
@@ -27,11 +29,12 @@ is_read edges n p h =
           (length-meta info all ∙ ap (λ (k : ℕ). 32 + 8 * k) (length-counts edges c p))
           (ap (counted (length edges)) read ∙ counted_all (length edges) all sums)
           (length-each edge_bytes 12 (columns edges c p) (λ e. refl) ∙ ap (λ (k : ℕ). 12 * k) whole)
-          refl
+          (length-low edges c p ∙ ap (λ (counts : List ℕ). 12 * low_edges (record { parts = p; counts = counts }) p) (sym read))
           (length-each (λ v. info_bytes (leaving edges v)) 12 (range_with_len 0 n) (λ v. refl) ∙ ap (λ (k : ℕ). 12 * k) (length-range 0 n));
       counts = read;
       count = count_is edges c p;
       place = place_is edges c p;
+      low_place = low_place_is edges c p;
     }
 
 pub returns : goal.returns

@@ -21,4 +21,4 @@ returns-in-Err-write_all-clause-done g c =
 
 pub returns-in-Ok-write_all-clause-takes : goal.returns-in-Ok-write_all-clause-takes
 returns-in-Ok-write_all-clause-takes g c = λ bytes told.
-    built_takes c.args.text c.args.parts _ _ _ _ _ c.in-Ok.info _ _ bytes (c.in-Ok.ensures.built (g.O.Sink.written c.args.out.now)) told c.build_files.ensures.taken
+    built_takes c.args.text c.args.parts _ _ _ _ _ c.in-Ok.info (g.D.Depot.taken c.args.depot.now) (g.D.Depot.taken c.build_files.new.depot) bytes (g.D.Depot.tells_all c.build_files.new.depot) (c.in-Ok.ensures.built (g.O.Sink.written c.args.out.now)) told c.in-Ok.ensures.copied c.build_files.ensures.unread

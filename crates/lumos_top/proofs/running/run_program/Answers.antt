@@ -1,13 +1,13 @@
-use Rattle.std.specs.Prelude.{◌*◌, IfErr, IfOk}
+use Rattle.std.specs.Prelude.{IfErr, IfOk}
 use Rattle.std.proofs.Common.{Ok, Err, sym, subst}
-use Rattle.lumos_depot.specs.declared.depot.FileKind.TheVariants.{Meta, Primary}
+use Rattle.lumos_depot.specs.declared.depot.FileKind.TheVariants.{Meta, Primary, Secondary}
 use Rattle.lumos_law.specs.Sync.{ending}
 use Rattle.partition.specs.Parts.{chunk_of}
 use Rattle.grid_build.specs.Outside.{RoseBy}
 use Rattle.early_engine.specs.Engines.{cut_in}
 use Rattle.early_engine.specs.Making.{IsOver}
 use Rattle.early_engine.specs.Turns.{RunIsOver}
-use Rattle.early_engine.specs.Passes.{bytes_of, passes}
+use Rattle.early_engine.specs.Passes.{primary_taken, secondary_taken}
 use Rattle.early_engine.specs.Report.{report}
 use Rattle.early_engine.specs.Runs.{RunComes}
 use Rattle.lumos_top.specs.Outcome.{ran_by}
@@ -20,42 +20,44 @@ returns-in-Ok-run-clause-leaves g c = λ list parts of.
     let model = g.G.VertexProgram.model in
     let name = g.G.VertexProgram.name_text in
     let e = c.in-Ok.engine in
-    let ran = ran_by (model c.args.program) (name c.args.program) parts c.args.iterations list in
+    let ran = ran_by (model c.args.program) (name c.args.program) parts c.args.iterations c.args.mode list in
     subst (λ end. Leaves ran (g.D.Depot.holds c.args.depot.now) (g.O.Sink.written c.args.out.now) (g.O.Sink.written c.run.new.out) (Ok end)) (sym c.ended_by.ensures)
     (run_told model name c.args.program list parts _ c.args.info _ (g.D.Depot.holds c.open.new.depot) e _ _ (Ok c.in-Ok-run.ending) c.in-Ok.ensures.program c.in-Ok.ensures.options c.in-Ok.ensures.info of
     c.in-Ok.ensures.told
-    (λ edges opened. subst (RunComes (ending (model e.program) edges e.info.vertices e.options.iterations) (report (model e.program) (name e.program) e.options.show edges e.info.vertices e.info.parts e.options.iterations) _ _) c.in-Ok-run.is (c.run.ensures.told edges opened)))
+    (λ edges opened. subst (RunComes (ending (model e.program) edges e.info.vertices e.options.iterations) (report (model e.program) (name e.program) e.options.show e.options.mode edges e.info.vertices e.info.parts e.options.iterations) _ _) c.in-Ok-run.is (c.run.ensures.told edges opened)))
 
 pub returns-in-Err-run-clause-leaves : goal.returns-in-Err-run-clause-leaves
 returns-in-Err-run-clause-leaves g c = λ list parts of.
     let model = g.G.VertexProgram.model in
     let name = g.G.VertexProgram.name_text in
     let e = c.in-Ok.engine in
-    let ran = ran_by (model c.args.program) (name c.args.program) parts c.args.iterations list in
+    let ran = ran_by (model c.args.program) (name c.args.program) parts c.args.iterations c.args.mode list in
     subst (Leaves ran (g.D.Depot.holds c.args.depot.now) (g.O.Sink.written c.args.out.now) (g.O.Sink.written c.run.new.out)) (sym c.run_stop.ensures)
     (run_told model name c.args.program list parts _ c.args.info _ (g.D.Depot.holds c.open.new.depot) e _ _ (Err c.in-Err-run.fault) c.in-Ok.ensures.program c.in-Ok.ensures.options c.in-Ok.ensures.info of
     c.in-Ok.ensures.told
-    (λ edges opened. subst (RunComes (ending (model e.program) edges e.info.vertices e.options.iterations) (report (model e.program) (name e.program) e.options.show edges e.info.vertices e.info.parts e.options.iterations) _ _) c.in-Err-run.is (c.run.ensures.told edges opened)))
+    (λ edges opened. subst (RunComes (ending (model e.program) edges e.info.vertices e.options.iterations) (report (model e.program) (name e.program) e.options.show e.options.mode edges e.info.vertices e.info.parts e.options.iterations) _ _) c.in-Err-run.is (c.run.ensures.told edges opened)))
 
 pub returns-in-Ok-run-clause-takes : goal.returns-in-Ok-run-clause-takes
 returns-in-Ok-run-clause-takes g c = λ list parts of.
     let model = g.G.VertexProgram.model in
     let name = g.G.VertexProgram.name_text in
     let e = c.in-Ok.engine in
-    let ran = ran_by (model c.args.program) (name c.args.program) parts c.args.iterations list in
+    let ran = ran_by (model c.args.program) (name c.args.program) parts c.args.iterations c.args.mode list in
     let t = g.D.Depot.taken in
-    subst (λ end. RunTakes ran (g.D.Depot.holds c.args.depot.now) (t c.args.depot.now Primary) (t c.run.new.depot Primary) (Ok end)) (sym c.ended_by.ensures)
-    (run_took model name c.args.program list parts _ c.args.info _ (g.D.Depot.holds c.open.new.depot) e _ _ c.in-Ok-run.ending (t c.args.depot.now Primary) (t c.open.new.depot Primary) (t c.run.new.depot Primary) c.in-Ok.ensures.program c.in-Ok.ensures.options c.in-Ok.ensures.info of
+    subst (λ end. RunTakes ran (g.D.Depot.holds c.args.depot.now) (t c.args.depot.now) (t c.run.new.depot) (Ok end)) (sym c.ended_by.ensures)
+    (run_took model name c.args.program list parts _ c.args.info _ (g.D.Depot.holds c.open.new.depot) e _ _ c.in-Ok-run.ending (t c.args.depot.now) (t c.open.new.depot) (t c.run.new.depot) c.in-Ok.ensures.program c.in-Ok.ensures.options c.in-Ok.ensures.info of
     c.in-Ok.ensures.told
-    (λ edges opened. subst (RunComes (ending (model e.program) edges e.info.vertices e.options.iterations) (report (model e.program) (name e.program) e.options.show edges e.info.vertices e.info.parts e.options.iterations) _ _) c.in-Ok-run.is (c.run.ensures.told edges opened))
-    (λ edges opened. subst (λ r. IfOk r (λ end. RoseBy (t c.open.new.depot Primary) (t c.run.new.depot Primary) (end.iterations * bytes_of edges (chunk_of (cut_in e.info)) (passes e.info.parts)))) c.in-Ok-run.is (c.run.ensures.taken edges opened))
-    (c.open.ensures.reads.taken Primary (λ is. cc)))
+    (λ edges opened. subst (RunComes (ending (model e.program) edges e.info.vertices e.options.iterations) (report (model e.program) (name e.program) e.options.show e.options.mode edges e.info.vertices e.info.parts e.options.iterations) _ _) c.in-Ok-run.is (c.run.ensures.told edges opened))
+    (λ edges opened. subst (λ r. IfOk r (λ end. RoseBy (t c.open.new.depot Primary) (t c.run.new.depot Primary) (primary_taken e.options.mode edges (chunk_of (cut_in e.info)) e.info.parts end.iterations))) c.in-Ok-run.is (c.run.ensures.primary edges opened))
+    (λ edges opened. subst (λ r. IfOk r (λ end. RoseBy (t c.open.new.depot Secondary) (t c.run.new.depot Secondary) (secondary_taken e.options.mode edges (chunk_of (cut_in e.info)) e.info.parts end.iterations))) c.in-Ok-run.is (c.run.ensures.secondary edges opened))
+    (c.open.ensures.reads.taken Primary (λ is. cc))
+    (c.open.ensures.reads.taken Secondary (λ is. cc)))
 
 pub returns-in-Err-run-clause-takes : goal.returns-in-Err-run-clause-takes
 returns-in-Err-run-clause-takes g c = λ list parts of.
-    let ran = ran_by (g.G.VertexProgram.model c.args.program) (g.G.VertexProgram.name_text c.args.program) parts c.args.iterations list in
+    let ran = ran_by (g.G.VertexProgram.model c.args.program) (g.G.VertexProgram.name_text c.args.program) parts c.args.iterations c.args.mode list in
     let t = g.D.Depot.taken in
-    subst (RunTakes ran (g.D.Depot.holds c.args.depot.now) (t c.args.depot.now Primary) (t c.run.new.depot Primary)) (sym c.run_stop.ensures) (takes_stop ran (g.D.Depot.holds c.args.depot.now) (t c.args.depot.now Primary) (t c.run.new.depot Primary) c.in-Err-run.fault)
+    subst (RunTakes ran (g.D.Depot.holds c.args.depot.now) (t c.args.depot.now) (t c.run.new.depot)) (sym c.run_stop.ensures) (takes_stop ran (g.D.Depot.holds c.args.depot.now) (t c.args.depot.now) (t c.run.new.depot) c.in-Err-run.fault)
 
 pub returns-in-Err-clause-runs : goal.returns-in-Err-clause-runs
 returns-in-Err-clause-runs g c = open_leaves g.D.Depot.holds g.D.Depot.taken g.D.Depot.stored g.D.Depot.faults g.D.Depot.attached _ _ c.open.ensures.reads

@@ -8,6 +8,6 @@ returns-clause-value c =
     let at = c.args.at in
     let edges = c.option_end-edges.ensures.value in
     let bytes = c.option_end-bytes.ensures.value ∙ ap (λ (a : ℕ). option_end words a (codes "--max-edges")) edges in
-    let end = c.option_end-end.ensures.value ∙ ap (λ (b : ℕ). option_end words b (codes "--max-bytes")) bytes in
-    c.places_by.ensures.value ∙ ap (λ (a : ℕ). places_by words at a c.option_end-bytes.result c.option_end-end.result) edges
-    ∙ ap₂ (λ (b : ℕ) (e : ℕ). places_by words at (option_end words at (codes "--vertices")) b e) bytes end
+    let both = c.option_end-both.ensures.value ∙ ap (λ (b : ℕ). option_end words b (codes "--max-bytes")) bytes in
+    c.places_by.ensures.value ∙ ap (λ (a : ℕ). places_by words at a c.option_end-bytes.result c.option_end-both.result) edges
+    ∙ ap₂ (λ (b : ℕ) (e : ℕ). places_by words at (option_end words at (codes "--vertices")) b e) bytes both

@@ -1,8 +1,9 @@
-use Rattle.std.proofs.Common.{◌++◌, Ok, Err, length, drop, take, refl, sym, ap, ◌∙◌, subst, arith}
+use Rattle.std.proofs.Common.{◌≤◌, ◌++◌, Ok, Err, length, drop, take, refl, sym, ap, ◌∙◌, subst, arith}
 use Rattle.std.proofs.lemmas.List.{take_at}
+use Rattle.partition.specs.Parts.{Cut}
 use Rattle.early_engine.specs.Engines.{IsOpened, cut_in}
 use Rattle.early_engine.specs.Starts.{StartComes}
-use Rattle.early_engine.proofs.StandLemmas.{stands_first}
+use Rattle.early_engine.proofs.StandLemmas.{core_first, stands_first}
 use Rattle.early_engine.proofs.engine.Engine.begin.Goals as goal
 
 pub returns-in-Ok-clause-told : goal.returns-in-Ok-clause-told
@@ -40,3 +41,17 @@ returns-in-Ok-clause-stands g c edges opened ok =
     stands_first (model c.args.self.now.program) edges (g.D.Depot.holds c.args.depot.now) (g.D.Depot.holds c.make_start.new.depot) c.args.self.now _ c.in-Ok.ensures.reads.contents
     (record { program = ap (λ w. w.program) was; options = ap (λ w. w.options) was; info = ap (λ w. w.info) was; table = ap (λ w. w.table) was })
     refl none (omega (arith, c.self.invariant.counted.some)) opened (returns-in-Ok-clause-told g c edges opened).0
+
+pub returns-in-Ok-clause-core : goal.returns-in-Ok-clause-core
+returns-in-Ok-clause-core g c edges opened =
+    let model = g.G.VertexProgram.model in
+    let was = c.self.view_is in
+    let engine = c.args.self.now in
+    let values = c.make_start.new.values in
+    let held = c.self.inside.room in
+    let behind = drop (length values) held.before.items in
+    let put = c.make_start.auto.values ∙ c.deref_mut.ensures.len in
+    let all = ap (λ (k : Cut). k.vertices) c.self.invariant.cut_fits ∙ ap (λ w. w.info.vertices) was in
+    let few = subst (λ w. w.options.iterations ≤ 1000000) was c.self.invariant.counted.few in
+    core_first (model engine.program) (g.met.G.VertexProgram.lawful engine.program) edges (g.D.Depot.holds c.args.depot.now) engine (take held.before.len (values ++ behind)) held.early.items few
+    (ap length (take_at values behind held.before.len put) ∙ put ∙ c.self.invariant.roomy.before_fits ∙ all) (sym held.early.ok.0 ∙ c.self.invariant.roomy.early_fits ∙ all) opened (returns-in-Ok-clause-told g c edges opened).0

@@ -1,7 +1,7 @@
 use Rattle.std.proofs.Common.{◌≤◌, ◌*◌, length, refl}
-use Rattle.lumos_depot.specs.declared.depot.FileKind.TheVariants.{Primary, Info}
+use Rattle.lumos_depot.specs.declared.depot.FileKind.TheVariants.{Info}
 use Rattle.early_engine.proofs.Moving.{told_same}
-use Rattle.early_engine.proofs.OpenLemmas.{files_fit_told}
+use Rattle.early_engine.proofs.OpenLemmas.{infos_fit}
 use Rattle.early_engine.proofs.engine.Engine.open.Goals as goal
 
 pub returns-in-Ok-clause-told : goal.returns-in-Ok-clause-told
@@ -13,10 +13,4 @@ pub returns-in-Ok-clause-info_fits : goal.returns-in-Ok-clause-info_fits
 returns-in-Ok-clause-info_fits g c =
     let told = g.D.Depot.holds c.args.depot.now in
     told_same (told Info) (g.D.Depot.holds c.open_parts.new.depot Info) (λ file. 12 * c.args.info.vertices ≤ length file) (c.in-Ok.ensures.reads.contents Info)
-    (files_fit_told told (g.D.Depot.tells_all c.args.depot.now) c.args.info c.requires.accepted).0
-
-pub returns-in-Ok-clause-primary_fits : goal.returns-in-Ok-clause-primary_fits
-returns-in-Ok-clause-primary_fits g c =
-    let told = g.D.Depot.holds c.args.depot.now in
-    told_same (told Primary) (g.D.Depot.holds c.open_parts.new.depot Primary) (λ file. 12 * c.args.info.edges ≤ length file) (c.in-Ok.ensures.reads.contents Primary)
-    (files_fit_told told (g.D.Depot.tells_all c.args.depot.now) c.args.info c.requires.accepted).1
+    (infos_fit told (g.D.Depot.tells_all c.args.depot.now) c.args.info c.requires.accepted)

@@ -1,11 +1,12 @@
-use Rattle.std.proofs.Common.{◌≡◌, ◌*◌, ℕ, refl, sym, ◌∙◌, subst, arith}
+use Rattle.std.proofs.Common.{◌≡◌, ℕ, refl, sym, subst}
 use Rattle.std.specs.Prelude.{IfOk}
-use Rattle.lumos_depot.specs.declared.depot.FileKind.TheVariants.{Primary}
+use Rattle.lumos_depot.specs.declared.depot.FileKind.TheVariants.{Primary, Secondary}
 use Rattle.value_files.specs.Outside.{RoseBy}
 use Rattle.early_engine.specs.Engines.{IsStanding, cut_in}
 use Rattle.early_engine.specs.Report.{first_lines}
 use Rattle.early_engine.specs.Runs.{RunComes}
-use Rattle.early_engine.proofs.RunLemmas.{bytes_in, end_of, key_of, later_of, run_stops, run_then, same_key}
+use Rattle.early_engine.proofs.RunLemmas.{end_of, key_of, later_of, primary_in, run_stops, run_then, same_key, secondary_in}
+use Rattle.early_engine.proofs.TakenLemmas.{streams_infos, streams_then}
 use Rattle.early_engine.proofs.engine.Engine.run.Goals as goal
 
 pub returns-in-Ok-clause-told : goal.returns-in-Ok-clause-told
@@ -23,8 +24,8 @@ returns-in-Ok-clause-told g c edges opened =
     run_then (end_of model edges (key_of w)) (first_lines (model w.program) (g.G.VertexProgram.name_text w.program) w.options.show edges w.info.vertices w.info.parts) (later_of model edges (key_of w))
     (g.O.Sink.written c.args.out.now) mid after c.run_turns.result begun.1 came
 
-pub returns-in-Ok-clause-taken : goal.returns-in-Ok-clause-taken
-returns-in-Ok-clause-taken g c edges opened =
+pub returns-in-Ok-clause-primary : goal.returns-in-Ok-clause-primary
+returns-in-Ok-clause-primary g c edges opened =
     let model = g.G.VertexProgram.model in
     let w = c.args.self in
     let new = c.begin.new.self in
@@ -33,21 +34,28 @@ returns-in-Ok-clause-taken g c edges opened =
     let here = subst (λ k. IsStanding (model k.program) edges (g.D.Depot.holds c.begin.new.depot) new) (sym key) stands in
     let after = g.D.Depot.taken c.run_turns.new.depot Primary in
     let mid = g.D.Depot.taken c.begin.new.depot Primary in
-    let rose = subst (λ k. IfOk c.run_turns.result (λ end. RoseBy mid after (end.iterations * bytes_in model edges k))) key (c.run_turns.ensures.taken edges here) in
+    let rose = subst (λ k. IfOk c.run_turns.result (λ end. RoseBy mid after (primary_in model edges k end.iterations))) key (c.run_turns.ensures.primary edges here) in
     let same : mid ≡ g.D.Depot.taken c.args.depot.now Primary = c.in-Ok.ensures.reads.taken Primary (λ e. cc) in
-    subst (λ (b : ℕ). IfOk c.run_turns.result (λ end. RoseBy b after (end.iterations * bytes_in model edges (key_of w)))) same rose
+    subst (λ (b : ℕ). IfOk c.run_turns.result (λ end. RoseBy b after (primary_in model edges (key_of w) end.iterations))) same rose
+
+pub returns-in-Ok-clause-secondary : goal.returns-in-Ok-clause-secondary
+returns-in-Ok-clause-secondary g c edges opened =
+    let model = g.G.VertexProgram.model in
+    let w = c.args.self in
+    let new = c.begin.new.self in
+    let key = same_key w new c.in-Ok.ensures.same in
+    let stands = c.in-Ok.ensures.stands edges opened refl in
+    let here = subst (λ k. IsStanding (model k.program) edges (g.D.Depot.holds c.begin.new.depot) new) (sym key) stands in
+    let after = g.D.Depot.taken c.run_turns.new.depot Secondary in
+    let mid = g.D.Depot.taken c.begin.new.depot Secondary in
+    let rose = subst (λ k. IfOk c.run_turns.result (λ end. RoseBy mid after (secondary_in model edges k end.iterations))) key (c.run_turns.ensures.secondary edges here) in
+    let same : mid ≡ g.D.Depot.taken c.args.depot.now Secondary = c.in-Ok.ensures.reads.taken Secondary (λ e. cc) in
+    subst (λ (b : ℕ). IfOk c.run_turns.result (λ end. RoseBy b after (secondary_in model edges (key_of w) end.iterations))) same rose
 
 pub returns-in-Ok-clause-streams : goal.returns-in-Ok-clause-streams
 returns-in-Ok-clause-streams g c =
-    let first = c.in-Ok.ensures.reads in
-    let second = c.run_turns.ensures.reads in
-    record {
-      attached = second.attached ∙ first.attached;
-      contents = λ kind. second.contents kind ∙ first.contents kind;
-      taken = λ kind blocks infos. second.taken kind blocks ∙ first.taken kind infos;
-      stored = λ kind. second.stored kind ∙ first.stored kind;
-      later = omega (arith, first.later, second.later);
-    }
+    streams_then g.D.Depot.holds g.D.Depot.taken g.D.Depot.stored g.D.Depot.faults g.D.Depot.attached _ _ _
+    (streams_infos g.D.Depot.holds g.D.Depot.taken g.D.Depot.stored g.D.Depot.faults g.D.Depot.attached _ _ c.in-Ok.ensures.reads) c.run_turns.ensures.streams
 
 pub returns-clause-told : goal.returns-clause-told
 returns-clause-told g c edges opened =

@@ -1,8 +1,9 @@
-use Rattle.std.proofs.Common.{◌≡◌, ◌+◌, Ok, Err, refl, ap, ◌∙◌, subst}
+use Rattle.std.proofs.Common.{◌≡◌, ◌≤◌, ◌+◌, Ok, Err, refl, sym, ap, ◌∙◌, subst}
+use Rattle.partition.specs.Parts.{Cut}
 use Rattle.early_engine.specs.Engines.{IsStanding, cut_in}
 use Rattle.early_engine.specs.Turns.{HasTurned, TurnComes, phase_after}
 use Rattle.early_engine.specs.declared.options.Turn.TheVariants.{Going}
-use Rattle.early_engine.proofs.StandLemmas.{stands_again, turn_comes}
+use Rattle.early_engine.proofs.StandLemmas.{core_turned, stands_again, turn_comes}
 use Rattle.early_engine.proofs.engine.Engine.turn.Goals as goal
 
 pub returns-in-Ok-clause-told : goal.returns-in-Ok-clause-told
@@ -10,20 +11,22 @@ returns-in-Ok-clause-told g c edges =
     let model = g.G.VertexProgram.model in
     let told = g.D.Depot.holds c.args.depot.now in
     let items = c.make_turn.new.room.before.items in
+    let sums = c.make_turn.new.room.early.items in
     let held = g.O.Sink.written c.args.out.now in
     let after = g.O.Sink.written c.make_turn.new.out in
-    subst (λ w. IsStanding (model w.program) edges told w → HasTurned (model w.program) w.options.show edges (cut_in w.info) w.options.iterations w.finished items held after c.in-Ok.turn) c.self.view_is
-    (turn_comes (model c.self.inside.program) edges told _ c.self.inside.layout.parts (c.self.inside.finished + 1) items held after (Ok c.in-Ok.turn) c.self.invariant.cut_fits refl (c.in-Ok.ensures.told edges))
+    subst (λ w. IsStanding (model w.program) edges told w → HasTurned (model w.program) w.options.show w.options.mode edges (cut_in w.info) w.options.iterations w.finished items sums held after c.in-Ok.turn) c.self.view_is
+    (turn_comes (model c.self.inside.program) edges told _ c.self.inside.layout.parts (c.self.inside.finished + 1) items sums held after (Ok c.in-Ok.turn) c.self.invariant.cut_fits refl (c.in-Ok.ensures.told edges))
 
 pub returns-in-Err-clause-told : goal.returns-in-Err-clause-told
 returns-in-Err-clause-told g c edges =
     let model = g.G.VertexProgram.model in
     let told = g.D.Depot.holds c.args.depot.now in
     let items = c.make_turn.new.room.before.items in
+    let sums = c.make_turn.new.room.early.items in
     let held = g.O.Sink.written c.args.out.now in
     let after = g.O.Sink.written c.make_turn.new.out in
-    subst (λ w. IsStanding (model w.program) edges told w → TurnComes (model w.program) w.options.show edges (cut_in w.info) w.options.iterations w.finished items held after (Err c.in-Err.fault)) c.self.view_is
-    (turn_comes (model c.self.inside.program) edges told _ c.self.inside.layout.parts (c.self.inside.finished + 1) items held after (Err c.in-Err.fault) c.self.invariant.cut_fits refl (c.in-Err.ensures.told edges))
+    subst (λ w. IsStanding (model w.program) edges told w → TurnComes (model w.program) w.options.show w.options.mode edges (cut_in w.info) w.options.iterations w.finished items sums held after (Err c.in-Err.fault)) c.self.view_is
+    (turn_comes (model c.self.inside.program) edges told _ c.self.inside.layout.parts (c.self.inside.finished + 1) items sums held after (Err c.in-Err.fault) c.self.invariant.cut_fits refl (c.in-Err.ensures.told edges))
 
 pub returns-in-Ok-clause-stands : goal.returns-in-Ok-clause-stands
 returns-in-Ok-clause-stands g c edges stands going =
@@ -34,3 +37,16 @@ returns-in-Ok-clause-stands g c edges stands going =
     is c.in-Ok.ensures.reads.contents
     (record { program = ap (λ w. w.program) was; options = ap (λ w. w.options) was; info = ap (λ w. w.info) was; table = ap (λ w. w.table) was })
     (c.phase_after-self-inside.ensures ∙ ap phase_after is) (ap (λ w. w.finished + 1) was) stands (returns-in-Ok-clause-told g c edges stands)
+
+pub returns-in-Ok-clause-core : goal.returns-in-Ok-clause-core
+returns-in-Ok-clause-core g c edges stands =
+    let model = g.G.VertexProgram.model in
+    let was = c.self.view_is in
+    let engine = c.args.self.now in
+    let few = subst (λ w. w.options.iterations ≤ 1000000) was c.self.invariant.counted.few in
+    let room = c.make_turn.new.room in
+    let fits = c.in-Ok.ensures.fits in
+    let all = ap (λ (k : Cut). k.vertices) c.self.invariant.cut_fits ∙ ap (λ w. w.info.vertices) was in
+    core_turned (model engine.program) edges (g.D.Depot.holds c.args.depot.now) (g.met.G.VertexProgram.lawful engine.program) engine (c.self.inside.finished + 1) room.before.items room.early.items
+    (g.O.Sink.written c.args.out.now) (g.O.Sink.written c.make_turn.new.out) c.in-Ok.turn few (ap (λ w. w.finished + 1) was)
+    (sym room.before.ok.0 ∙ fits.before_fits ∙ all) (sym room.early.ok.0 ∙ fits.early_fits ∙ all) stands (returns-in-Ok-clause-told g c edges stands)

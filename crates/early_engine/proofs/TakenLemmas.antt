@@ -1,0 +1,89 @@
+-- The bytes that the iterations of a run take of Primary and Secondary.
+use Rattle.std.proofs.Common.{◌≡◌, ◌≢◌, ℕ, ◌+◌, List, Option, refl, ap, ◌∙◌, arith, add-one}
+use Rattle.std.specs.Prelude.{sum_by}
+use Rattle.std.specs.List.{range_with_len}
+use Rattle.std.proofs.lemmas.List.Sums.{sum_by_push}
+use Rattle.lumos_base.specs.declared.records.Edge.{Edge}
+use Rattle.lumos_depot.specs.Files.{SameBut}
+use Rattle.lumos_depot.specs.declared.depot.FileKind.{FileKind}
+use Rattle.lumos_depot.specs.declared.depot.FileKind.TheVariants.{Primary, Secondary, Info}
+use Rattle.partition.proofs.BucketLemmas.{range_more}
+use Rattle.lumos_report.specs.declared.records.Kind.{Kind}
+use Rattle.lumos_report.specs.declared.records.Kind.TheVariants.{Full, Fed}
+use Rattle.value_files.specs.Outside.{Reads, RoseBy}
+use Rattle.early_engine.specs.Passes.{bytes_of, file_of, passes, primary_bytes, secondary_bytes}
+use Rattle.early_engine.specs.Runs.{Streams}
+
+primary_apart : Primary ≢ Secondary
+primary_apart e = cc
+
+secondary_apart : Secondary ≢ Primary
+secondary_apart e = cc
+
+infos_apart : (kind : Kind) → Info ≢ file_of kind
+infos_apart Full e = let d : Info ≡ Primary = e in cc
+infos_apart Fed e = let d : Info ≡ Secondary = e in cc
+
+-- an iteration takes its blocks' bytes of the file from which it reads, and none of the other
+pub primary_rose : (kind : Kind) (edges : List Edge) (c p : ℕ) (old new : FileKind → ℕ) → RoseBy (old (file_of kind)) (new (file_of kind)) (bytes_of edges c (passes kind p)) → SameBut (file_of kind) old new → RoseBy (old Primary) (new Primary) (primary_bytes kind edges c p)
+primary_rose Full edges c p old new rose same = rose
+primary_rose Fed edges c p old new rose same = λ low. let stays = same Primary primary_apart in omega (arith, stays)
+
+pub secondary_rose : (kind : Kind) (edges : List Edge) (c p : ℕ) (old new : FileKind → ℕ) → RoseBy (old (file_of kind)) (new (file_of kind)) (bytes_of edges c (passes kind p)) → SameBut (file_of kind) old new → RoseBy (old Secondary) (new Secondary) (secondary_bytes kind edges c p)
+secondary_rose Full edges c p old new rose same = λ low. let stays = same Secondary secondary_apart in omega (arith, stays)
+secondary_rose Fed edges c p old new rose same = rose
+
+-- what the first n iterations take, where iteration t takes `f t`
+abbrev pub taken_by : (ℕ → ℕ) → ℕ → ℕ
+taken_by f n = sum_by f (range_with_len 1 n)
+
+taken_more : (f : ℕ → ℕ) (n : ℕ) → taken_by f (n + 1) ≡ taken_by f n + f (n + 1)
+taken_more f n =
+    let next : 1 + n ≡ n + 1 = omega arith in
+    ap (taken_by f) (add-one n) ∙ ap (sum_by f) (range_more 1 n) ∙ sum_by_push f (range_with_len 1 n) (1 + n)
+    ∙ ap (λ (k : ℕ). taken_by f n + f k) next
+
+pub rose_first : (f : ℕ → ℕ) (n before : ℕ) → n ≡ 0 → RoseBy before before (taken_by f n)
+rose_first f n before none low = let all : taken_by f n ≡ 0 = ap (taken_by f) none in omega (arith, all)
+
+-- one iteration more
+pub rose_more : (f : ℕ → ℕ) (t next before mid after : ℕ) → next ≡ t + 1 → RoseBy before mid (taken_by f t) → RoseBy mid after (f (t + 1)) → RoseBy before after (taken_by f next)
+rose_more f t next before mid after at first second low =
+    let two = second low in
+    let one = first (omega arith) in
+    let all : taken_by f next ≡ taken_by f t + f (t + 1) = ap (taken_by f) at ∙ taken_more f t in
+    omega arith
+
+module _ {D : Type 0} (h : D → FileKind → Option (List ℕ)) (t s : D → FileKind → ℕ) (f : D → ℕ) (a : D → Option (List ℕ)) where
+  pub streams_none : (x : D) → Streams h t s f a x x
+  streams_none x = record { attached = refl; contents = λ kind. refl; taken = λ kind blocks low infos. refl; stored = λ kind. refl; later = omega arith }
+
+  pub streams_then : (x y z : D) → Streams h t s f a x y → Streams h t s f a y z → Streams h t s f a x z
+  streams_then x y z first second = record {
+    attached = second.attached ∙ first.attached;
+    contents = λ kind. second.contents kind ∙ first.contents kind;
+    taken = λ kind blocks low infos. second.taken kind blocks low infos ∙ first.taken kind blocks low infos;
+    stored = λ kind. second.stored kind ∙ first.stored kind;
+    later = let l = first.later in let m = second.later in omega arith;
+  }
+
+  -- one of the files was read
+  streams_of : (from : FileKind) (x y : D) → ((kind : FileKind) → kind ≢ Primary → kind ≢ Secondary → kind ≢ Info → kind ≢ from) → Reads h t s f a from x y → Streams h t s f a x y
+  streams_of from x y other reads = record {
+    attached = reads.attached;
+    contents = reads.contents;
+    taken = λ kind blocks low infos. reads.taken kind (other kind blocks low infos);
+    stored = reads.stored;
+    later = reads.later;
+  }
+
+  pub streams_infos : (x y : D) → Reads h t s f a Info x y → Streams h t s f a x y
+  streams_infos x y reads = streams_of Info x y (λ kind blocks low infos. infos) reads
+
+  -- an iteration reads one of them, and not Info
+  pub streams_blocks : (kind : Kind) (x y : D) → Reads h t s f a (file_of kind) x y → Streams h t s f a x y
+  streams_blocks Full x y reads = streams_of Primary x y (λ kind blocks low infos. blocks) reads
+  streams_blocks Fed x y reads = streams_of Secondary x y (λ kind blocks low infos. low) reads
+
+  pub infos_stay : (kind : Kind) (x y : D) → Reads h t s f a (file_of kind) x y → t y Info ≡ t x Info
+  infos_stay kind x y reads = reads.taken Info (infos_apart kind)

@@ -1,0 +1,84 @@
+use Rattle.std.proofs.Common.{◌≡◌, ℕ, ◌<◌, ◌≤◌, ◌+◌, ◌-◌, ◌*◌, ◌∷◌, ◌++◌, [], length, refl, sym, ap, ◌∙◌, append-nil, append_assoc, arith}
+use Rattle.lumos_depot.specs.declared.depot.FileKind.TheVariants.{Secondary}
+use Rattle.lumos_report.specs.declared.records.Kind.TheVariants.{Fed}
+use Rattle.partition.specs.Blocks.{block}
+use Rattle.partition.specs.Parts.{chunk_of}
+use Rattle.early_engine.specs.Passes.{bytes_of, place_at, tally_of}
+use Rattle.early_engine.proofs.FeedLemmas.{fed_as}
+use Rattle.early_engine.proofs.GridLemmas.{blocks_same, on_grid_same}
+use Rattle.early_engine.proofs.Moving.{reads_none, reads_then, rose_then}
+use Rattle.early_engine.proofs.PassLemmas.{bytes_more, rows_from, rows_more}
+use Rattle.early_engine.proofs.column.feed_rest.Goals as goal
+
+pub loop-i-init : goal.loop-i-init
+loop-i-init g c =
+    let cut = c.args.layout.now.parts in
+    let j = c.args.j in
+    let none : j - j ≡ 0 = omega arith in
+    record {
+      reads = reads_none g.D.Depot.holds g.D.Depot.taken g.D.Depot.stored g.D.Depot.faults g.D.Depot.attached Secondary c.args.depot.now;
+      few = omega arith;
+      from = omega arith;
+      moved = refl;
+      fed = λ edges state grid values sums. sums;
+      counted = λ edges bs moved grid is.
+          is ∙ ap (λ l. tally_of Fed edges (chunk_of cut) l moved) (sym (ap (λ (n : ℕ). bs ++ rows_from j n j) none ∙ append-nil bs));
+      taken = λ edges grid low. omega (arith, ap (λ (n : ℕ). bytes_of edges (chunk_of cut) (rows_from j n j)) none);
+    }
+
+pub feed_block-requires-clause-inside : goal.feed_block-requires-clause-inside
+feed_block-requires-clause-inside g c = blocks_same c.args.layout.now.table _ _ c.loop-i.invariant.reads.contents c.requires.inside
+
+pub returns-in-Err-clause-reads : goal.returns-in-Err-clause-reads
+returns-in-Err-clause-reads g c =
+    reads_then g.D.Depot.holds g.D.Depot.taken g.D.Depot.stored g.D.Depot.faults g.D.Depot.attached Secondary _ _ _ c.loop-i.invariant.reads c.in-Err.ensures.reads
+
+pub loop-i-preserved : goal.loop-i-preserved
+loop-i-preserved g c =
+    let cut = c.args.layout.now.parts in
+    let table = c.args.layout.now.table in
+    let i = c.loop-i.i in
+    let j = c.args.j in
+    let kept = c.loop-i.invariant in
+    let next = c.in-Ok.ensures in
+    let from : j ≤ i = kept.from in
+    let at : i ≡ j + (i - j) = omega (arith, from) in
+    let grown : i + 1 - j ≡ (i - j) + 1 = omega (arith, from) in
+    let more = ap (λ (n : ℕ). rows_from j n j) grown ∙ rows_more j (i - j) i j at in
+    record {
+      reads = reads_then g.D.Depot.holds g.D.Depot.taken g.D.Depot.stored g.D.Depot.faults g.D.Depot.attached Secondary _ _ _ kept.reads next.reads;
+      few = omega (arith, next.few, kept.few);
+      from = omega (arith, from);
+      moved = next.moved ∙ kept.moved;
+      fed = λ edges state grid values sums.
+          next.fed edges state (on_grid_same edges cut table _ _ kept.reads.contents grid) values (kept.fed edges state grid values sums);
+      counted = λ edges bs moved grid is.
+          let here = on_grid_same edges cut table _ _ kept.reads.contents grid in
+          next.counted edges (bs ++ rows_from j (i - j) j) moved here (kept.counted edges bs moved grid is)
+          ∙ ap (λ l. tally_of Fed edges (chunk_of cut) l moved) (append_assoc bs (rows_from j (i - j) j) (place_at i j ∷ []) ∙ ap (λ l. bs ++ l) (sym more));
+      taken = λ edges grid.
+          let here = on_grid_same edges cut table _ _ kept.reads.contents grid in
+          rose_then _ _ _ (bytes_of edges (chunk_of cut) (rows_from j (i - j) j)) (12 * length (block edges (chunk_of cut) i j)) _
+          (ap (bytes_of edges (chunk_of cut)) more ∙ bytes_more edges (chunk_of cut) (rows_from j (i - j) j) (place_at i j)) (kept.taken edges grid) (next.taken edges here);
+    }
+
+pub returns-clause-fed : goal.returns-clause-fed
+returns-clause-fed g c edges state grid values sums =
+    let cut = c.args.layout.now.parts in
+    let inside : c.args.j < cut.parts = c.requires.column in
+    let all : c.loop-i.i ≡ cut.parts = omega (arith, inside, c.loop-i.auto.i-end, c.loop-i-test.false, c.parts-i-end.ensures.value) in
+    fed_as (g.G.VertexProgram.model c.args.program.now) edges cut c.args.j _ _ state c.loop-i.sums all (c.loop-i.invariant.fed edges state grid values sums)
+
+pub returns-clause-counted : goal.returns-clause-counted
+returns-clause-counted g c edges bs moved grid is =
+    let cut = c.args.layout.now.parts in
+    let inside : c.args.j < cut.parts = c.requires.column in
+    let all : c.loop-i.i ≡ cut.parts = omega (arith, inside, c.loop-i.auto.i-end, c.loop-i-test.false, c.parts-i-end.ensures.value) in
+    c.loop-i.invariant.counted edges bs moved grid is ∙ ap (λ (n : ℕ). tally_of Fed edges (chunk_of cut) (bs ++ rows_from c.args.j (n - c.args.j) c.args.j) moved) all
+
+pub returns-clause-taken : goal.returns-clause-taken
+returns-clause-taken g c edges grid low =
+    let cut = c.args.layout.now.parts in
+    let inside : c.args.j < cut.parts = c.requires.column in
+    let all : c.loop-i.i ≡ cut.parts = omega (arith, inside, c.loop-i.auto.i-end, c.loop-i-test.false, c.parts-i-end.ensures.value) in
+    c.loop-i.invariant.taken edges grid low ∙ ap (λ (n : ℕ). g.D.Depot.taken c.args.depot.now Secondary + bytes_of edges (chunk_of cut) (rows_from c.args.j (n - c.args.j) c.args.j)) all

@@ -1,0 +1,137 @@
+use Rattle.std.proofs.Common.{◌≡◌, ℕ, ◌+◌, ◌-◌, ◌≤◌, ◌++◌, false, length, take, drop, refl, sym, ap, ◌∙◌, subst, arith}
+use Rattle.std.proofs.lemmas.List.{length-take, length-drop}
+use Rattle.lumos_depot.specs.declared.depot.FileKind.TheVariants.{Secondary}
+use Rattle.std.proofs.lemmas.Slice.{drop-put_mid}
+use Rattle.lumos_law.specs.Sync.{values}
+use Rattle.lumos_report.specs.declared.records.Kind.TheVariants.{Fed}
+use Rattle.partition.specs.Parts.{chunk_of, first_vertex, part_length}
+use Rattle.partition.specs.declared.records.VertexRange.{VertexRange}
+use Rattle.io_account.specs.declared.Counts.{Counts}
+use Rattle.early_engine.specs.Passes.{bytes_of, places, places_below, tally_of}
+use Rattle.early_engine.specs.Steps.{IsMadeBelow, blocks_in}
+use Rattle.early_engine.proofs.FeedLemmas.{early_part}
+use Rattle.early_engine.proofs.GridLemmas.{blocks_same, on_grid_same}
+use Rattle.early_engine.proofs.MadeLemmas.{column_chunk, made_all, made_none}
+use Rattle.early_engine.proofs.Moving.{reads_none, reads_then, rose_then}
+use Rattle.early_engine.proofs.PassLemmas.{below_more, bytes_both, tally_moved}
+use Rattle.early_engine.proofs.iteration.fed_iteration.Goals as goal
+
+pub loop-j-init : goal.loop-j-init
+loop-j-init g c =
+    let p = g.G.VertexProgram.model c.args.program.now in
+    let cut = c.args.layout.now.parts in
+    let none : c.zero-counts.result.moved ≡ 0 = ap (λ (k : Counts). k.moved) c.zero-counts.ensures in
+    record {
+      reads = reads_none g.D.Depot.holds g.D.Depot.taken g.D.Depot.stored g.D.Depot.faults g.D.Depot.attached Secondary c.args.depot.now;
+      few = omega (arith, ap blocks_in c.zero-counts.ensures);
+      moved = omega (arith, none);
+      made = λ edges t grid holds sums. made_none p edges cut t c.args.after.now c.zero-counts.result.moved none;
+      rest = λ k low. refl;
+      counted = λ edges grid. c.zero-counts.ensures ∙ ap (tally_of Fed edges (chunk_of cut) (places_below Fed cut.parts 0)) (sym none);
+      taken = λ edges grid low. omega arith;
+    }
+
+pub feed_rest-requires-clause-inside : goal.feed_rest-requires-clause-inside
+feed_rest-requires-clause-inside g c = blocks_same c.args.layout.now.table _ _ c.loop-j.invariant.reads.contents c.requires.inside
+
+pub feed_rest-requires-clause-sums_fit : goal.feed_rest-requires-clause-sums_fit
+feed_rest-requires-clause-sums_fit g c =
+    let first_is = ap (λ (r : VertexRange). r.first) c.range_of-range.ensures.value in
+    let past_is = ap (λ (r : VertexRange). r.past) c.range_of-range.ensures.value in
+    simp (length-take, length-drop) (omega (arith, first_is, past_is, c.loop-j.auto.early, c.requires.early_fits, c.range_of-range.ensures.ordered, c.range_of-range.ensures.inside))
+
+pub make_part-requires-clause-sums_fit : goal.make_part-requires-clause-sums_fit
+make_part-requires-clause-sums_fit g c =
+    let first_is = ap (λ (r : VertexRange). r.first) c.range_of-range.ensures.value in
+    let past_is = ap (λ (r : VertexRange). r.past) c.range_of-range.ensures.value in
+    c.feed_rest.auto.sums ∙ simp (length-take, length-drop) (omega (arith, first_is, past_is, c.loop-j.auto.early, c.requires.early_fits, c.range_of-range.ensures.ordered, c.range_of-range.ensures.inside))
+
+pub returns-in-Err-clause-reads : goal.returns-in-Err-clause-reads
+returns-in-Err-clause-reads g c =
+    reads_then g.D.Depot.holds g.D.Depot.taken g.D.Depot.stored g.D.Depot.faults g.D.Depot.attached Secondary _ _ _ c.loop-j.invariant.reads c.in-Err.ensures.reads
+
+pub loop-j-preserved : goal.loop-j-preserved
+loop-j-preserved g c =
+    let p = g.G.VertexProgram.model c.args.program.now in
+    let laws = g.met.G.VertexProgram.lawful c.args.program.now in
+    let cut = c.args.layout.now.parts in
+    let table = c.args.layout.now.table in
+    let n = cut.vertices in
+    let j = c.loop-j.j in
+    let kept = c.loop-j.invariant in
+    let next = c.in-Ok.ensures in
+    let first = c.range_of-range.result.first in
+    let past = c.range_of-range.result.past in
+    let first_is : first ≡ first_vertex n (chunk_of cut) j = ap (λ (r : VertexRange). r.first) c.range_of-range.ensures.value in
+    let past_is : past ≡ first_vertex n (chunk_of cut) (j + 1) = ap (λ (r : VertexRange). r.past) c.range_of-range.ensures.value in
+    let ordered : first ≤ past = c.range_of-range.ensures.ordered in
+    let inside : past ≤ n = c.range_of-range.ensures.inside in
+    let early_long : length c.loop-j.early ≡ n = c.loop-j.auto.early ∙ c.requires.early_fits in
+    let piece : length (take (past - first) (drop first c.loop-j.early)) ≡ part_length n (chunk_of cut) j = simp (length-take, length-drop) (omega (arith, first_is, past_is, ordered, inside, early_long)) in
+    let sums_long : length c.feed_rest.new.sums ≡ part_length n (chunk_of cut) j = c.feed_rest.auto.sums ∙ piece in
+    let added = c.add_moved.ensures in
+    let moves : c.add_moved.new.self.moved ≡ c.loop-j.counts.moved + c.in-Ok-make_part.moved = ap (λ (k : Counts). k.moved) added ∙ ap (λ (m : ℕ). m + c.in-Ok-make_part.moved) next.moved in
+    record {
+      reads = reads_then g.D.Depot.holds g.D.Depot.taken g.D.Depot.stored g.D.Depot.faults g.D.Depot.attached Secondary _ _ _ kept.reads next.reads;
+      few = omega (arith, ap blocks_in added, next.few, kept.few);
+      moved = omega (arith, moves, kept.moved, c.in-Ok-make_part.ensures.few, first_is, past_is, ordered);
+      made = λ edges t grid holds early.
+          let old = values p edges t in
+          let here = on_grid_same edges cut table _ _ kept.reads.contents grid in
+          let fed = next.fed edges old here holds (early_part p edges cut j old c.args.early.now c.loop-j.early first (past - first) grid.limits.some_parts first_is (kept.rest first (omega (arith, first_is))) piece early) in
+          let sums = column_chunk p laws edges cut table _ j t c.feed_rest.new.sums here sums_long fed in
+          subst (λ (m : ℕ). IsMadeBelow p edges cut (j + 1) t c.make_part.new.after m) (sym moves) (c.in-Ok-make_part.ensures.made edges t c.loop-j.counts.moved holds sums (kept.made edges t grid holds early));
+      rest = λ k low.
+          drop-put_mid first (past - first) c.loop-j.early c.feed_rest.new.sums k (omega (arith, past_is, low, ordered)) (omega (arith, early_long, ordered, inside)) (sums_long ∙ omega (arith, first_is, past_is))
+          ∙ kept.rest k (omega (arith, first_is, past_is, ordered, low));
+      counted = λ edges grid.
+          let here = on_grid_same edges cut table _ _ kept.reads.contents grid in
+          added ∙ ap (λ (k : Counts). record k { moved = k.moved + c.in-Ok-make_part.moved }) (next.counted edges (places_below Fed cut.parts j) c.loop-j.counts.moved here (kept.counted edges grid))
+          ∙ tally_moved edges (chunk_of cut) Fed (places_below Fed cut.parts j ++ places Fed cut.parts j) c.loop-j.counts.moved c.in-Ok-make_part.moved
+          ∙ ap (λ bs. tally_of Fed edges (chunk_of cut) bs (c.loop-j.counts.moved + c.in-Ok-make_part.moved)) (sym (below_more Fed cut.parts j))
+          ∙ ap (tally_of Fed edges (chunk_of cut) (places_below Fed cut.parts (j + 1))) (sym moves);
+      taken = λ edges grid.
+          let here = on_grid_same edges cut table _ _ kept.reads.contents grid in
+          rose_then _ _ _ (bytes_of edges (chunk_of cut) (places_below Fed cut.parts j)) (bytes_of edges (chunk_of cut) (places Fed cut.parts j)) _
+          (ap (bytes_of edges (chunk_of cut)) (below_more Fed cut.parts j) ∙ bytes_both edges (chunk_of cut) (places_below Fed cut.parts j) (places Fed cut.parts j)) (kept.taken edges grid) (next.taken edges here);
+    }
+
+pub returns-clause-made : goal.returns-clause-made
+returns-clause-made g c edges t grid holds early =
+    let p = g.G.VertexProgram.model c.args.program.now in
+    let cut = c.args.layout.now.parts in
+    let all : c.loop-j.j ≡ cut.parts = omega (arith, c.loop-j.auto.j-end, c.loop-j-test.false, c.parts-j-end.ensures.value) in
+    made_all p edges cut Fed false c.loop-j.j t c.loop-j.after c.loop-j.early c.loop-j.counts grid.limits.some_parts all (c.loop-j.auto.after ∙ c.requires.after_fits)
+    (c.loop-j.invariant.made edges t grid holds early) (c.loop-j.invariant.counted edges grid) (λ on. absurd (cc))
+
+pub returns-clause-taken : goal.returns-clause-taken
+returns-clause-taken g c edges grid low =
+    let cut = c.args.layout.now.parts in
+    let all : c.loop-j.j ≡ cut.parts = omega (arith, c.loop-j.auto.j-end, c.loop-j-test.false, c.parts-j-end.ensures.value) in
+    c.loop-j.invariant.taken edges grid low ∙ ap (λ (k : ℕ). g.D.Depot.taken c.args.depot.now Secondary + bytes_of edges (chunk_of cut) (places_below Fed cut.parts k)) all
+
+pub returns-in-Err-make_part-clause-made : goal.returns-in-Err-make_part-clause-made
+returns-in-Err-make_part-clause-made g c edges t grid holds early =
+    let p = g.G.VertexProgram.model c.args.program.now in
+    let laws = g.met.G.VertexProgram.lawful c.args.program.now in
+    let cut = c.args.layout.now.parts in
+    let table = c.args.layout.now.table in
+    let n = cut.vertices in
+    let j = c.loop-j.j in
+    let kept = c.loop-j.invariant in
+    let first = c.range_of-range.result.first in
+    let past = c.range_of-range.result.past in
+    let first_is : first ≡ first_vertex n (chunk_of cut) j = ap (λ (r : VertexRange). r.first) c.range_of-range.ensures.value in
+    let past_is : past ≡ first_vertex n (chunk_of cut) (j + 1) = ap (λ (r : VertexRange). r.past) c.range_of-range.ensures.value in
+    let early_long : length c.loop-j.early ≡ n = c.loop-j.auto.early ∙ c.requires.early_fits in
+    let piece : length (take (past - first) (drop first c.loop-j.early)) ≡ part_length n (chunk_of cut) j =
+    simp (length-take, length-drop) (omega (arith, first_is, past_is, c.range_of-range.ensures.ordered, c.range_of-range.ensures.inside, early_long)) in
+    let old = values p edges t in
+    let here = on_grid_same edges cut table _ _ kept.reads.contents grid in
+    let fed = c.in-Ok.ensures.fed edges old here holds (early_part p edges cut j old c.args.early.now c.loop-j.early first (past - first) grid.limits.some_parts first_is (kept.rest first (omega (arith, first_is))) piece early) in
+    let sums = column_chunk p laws edges cut table _ j t c.feed_rest.new.sums here (c.feed_rest.auto.sums ∙ piece) fed in
+    c.in-Err-make_part.ensures.made edges t c.loop-j.counts.moved holds sums (kept.made edges t grid holds early)
+
+pub returns-in-Err-make_part-clause-reads : goal.returns-in-Err-make_part-clause-reads
+returns-in-Err-make_part-clause-reads g c =
+    reads_then g.D.Depot.holds g.D.Depot.taken g.D.Depot.stored g.D.Depot.faults g.D.Depot.attached Secondary _ _ _ c.loop-j.invariant.reads c.in-Ok.ensures.reads

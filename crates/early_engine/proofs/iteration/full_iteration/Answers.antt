@@ -1,0 +1,142 @@
+use Rattle.std.proofs.Common.{◌≡◌, ℕ, suc, ◌+◌, ◌-◌, ◌≤◌, ◌++◌, length, take, sym, ap, ◌∙◌, subst, arith}
+use Rattle.std.proofs.lemmas.List.{length-take, length-drop, take_all}
+use Rattle.lumos_depot.specs.declared.depot.FileKind.TheVariants.{Primary}
+use Rattle.lumos_law.specs.Sync.{values, IsChunk}
+use Rattle.lumos_report.specs.declared.records.Kind.TheVariants.{Full}
+use Rattle.partition.specs.Parts.{chunk_of, first_vertex, part_length}
+use Rattle.partition.specs.declared.records.VertexRange.{VertexRange}
+use Rattle.io_account.specs.declared.Counts.{Counts}
+use Rattle.early_engine.specs.Early.{early_sum}
+use Rattle.early_engine.specs.Passes.{bytes_of, places, places_below, tally_of}
+use Rattle.early_engine.specs.Steps.{IsMadeBelow, blocks_in}
+use Rattle.early_engine.proofs.FeedLemmas.{early_made}
+use Rattle.early_engine.proofs.GridLemmas.{blocks_same, on_grid_same}
+use Rattle.early_engine.proofs.MadeLemmas.{all_parts, chunk_put, column_chunk, made_all, made_none}
+use Rattle.early_engine.proofs.Moving.{reads_none, reads_then, rose_then}
+use Rattle.early_engine.proofs.PassLemmas.{below_more, bytes_both, tally_moved}
+use Rattle.early_engine.proofs.iteration.full_iteration.Goals as goal
+
+pub loop-j-init : goal.loop-j-init
+loop-j-init g c =
+    let p = g.G.VertexProgram.model c.args.program.now in
+    let cut = c.args.layout.now.parts in
+    let none : c.zero-counts.result.moved ≡ 0 = ap (λ (k : Counts). k.moved) c.zero-counts.ensures in
+    let first : first_vertex cut.vertices (chunk_of cut) 0 ≡ 0 = omega arith in
+    record {
+      reads = reads_none g.D.Depot.holds g.D.Depot.taken g.D.Depot.stored g.D.Depot.faults g.D.Depot.attached Primary c.args.depot.now;
+      few = omega (arith, ap blocks_in c.zero-counts.ensures);
+      moved = omega (arith, none);
+      made = λ edges t grid holds. made_none p edges cut t c.args.after.now c.zero-counts.result.moved none;
+      early = λ edges t grid holds on. subst (λ (k : ℕ). IsChunk (early_sum p edges (chunk_of cut) (values p edges (suc t))) 0 (take k c.args.early.now)) (sym first) (record { at = λ d k below. absurd (omega arith) });
+      counted = λ edges grid. c.zero-counts.ensures ∙ ap (tally_of Full edges (chunk_of cut) (places_below Full cut.parts 0)) (sym none);
+      taken = λ edges grid low. omega arith;
+    }
+
+pub feed_full-requires-clause-inside : goal.feed_full-requires-clause-inside
+feed_full-requires-clause-inside g c = blocks_same c.args.layout.now.table _ _ c.loop-j.invariant.reads.contents c.requires.inside
+
+pub feed_full-requires-clause-sums_fit : goal.feed_full-requires-clause-sums_fit
+feed_full-requires-clause-sums_fit g c =
+    let first_is = ap (λ (r : VertexRange). r.first) c.range_of-range.ensures.value in
+    let past_is = ap (λ (r : VertexRange). r.past) c.range_of-range.ensures.value in
+    simp length-take (omega (arith, first_is, past_is, c.loop-j.auto.sums, c.requires.sums_fit, c.range_of-range.ensures.short))
+
+pub feed_full-requires-clause-early_fits : goal.feed_full-requires-clause-early_fits
+feed_full-requires-clause-early_fits g c =
+    let first_is = ap (λ (r : VertexRange). r.first) c.range_of-range.ensures.value in
+    let past_is = ap (λ (r : VertexRange). r.past) c.range_of-range.ensures.value in
+    simp (length-take, length-drop) (omega (arith, first_is, past_is, c.loop-j.auto.early, c.requires.early_fits, c.range_of-range.ensures.ordered, c.range_of-range.ensures.inside))
+
+pub make_part-requires-clause-sums_fit : goal.make_part-requires-clause-sums_fit
+make_part-requires-clause-sums_fit g c =
+    let first_is = ap (λ (r : VertexRange). r.first) c.range_of-range.ensures.value in
+    let past_is = ap (λ (r : VertexRange). r.past) c.range_of-range.ensures.value in
+    c.feed_full.auto.sums ∙ simp length-take (omega (arith, first_is, past_is, c.loop-j.auto.sums, c.requires.sums_fit, c.range_of-range.ensures.short))
+
+pub returns-in-Err-clause-reads : goal.returns-in-Err-clause-reads
+returns-in-Err-clause-reads g c =
+    reads_then g.D.Depot.holds g.D.Depot.taken g.D.Depot.stored g.D.Depot.faults g.D.Depot.attached Primary _ _ _ c.loop-j.invariant.reads c.in-Err.ensures.reads
+
+pub loop-j-preserved : goal.loop-j-preserved
+loop-j-preserved g c =
+    let p = g.G.VertexProgram.model c.args.program.now in
+    let laws = g.met.G.VertexProgram.lawful c.args.program.now in
+    let cut = c.args.layout.now.parts in
+    let table = c.args.layout.now.table in
+    let n = cut.vertices in
+    let j = c.loop-j.j in
+    let kept = c.loop-j.invariant in
+    let next = c.in-Ok.ensures in
+    let first = c.range_of-range.result.first in
+    let past = c.range_of-range.result.past in
+    let first_is : first ≡ first_vertex n (chunk_of cut) j = ap (λ (r : VertexRange). r.first) c.range_of-range.ensures.value in
+    let past_is : past ≡ first_vertex n (chunk_of cut) (j + 1) = ap (λ (r : VertexRange). r.past) c.range_of-range.ensures.value in
+    let ordered : first ≤ past = c.range_of-range.ensures.ordered in
+    let inside : past ≤ n = c.range_of-range.ensures.inside in
+    let sums_long : length c.feed_full.new.sums ≡ part_length n (chunk_of cut) j =
+    c.feed_full.auto.sums ∙ simp length-take (omega (arith, first_is, past_is, c.loop-j.auto.sums, c.requires.sums_fit, c.range_of-range.ensures.short)) in
+    let early_long : length c.feed_full.new.early ≡ part_length n (chunk_of cut) j =
+    c.feed_full.auto.early ∙ simp (length-take, length-drop) (omega (arith, first_is, past_is, ordered, inside, c.loop-j.auto.early, c.requires.early_fits)) in
+    let added = c.add_moved.ensures in
+    let moves : c.add_moved.new.self.moved ≡ c.loop-j.counts.moved + c.in-Ok-make_part.moved = ap (λ (k : Counts). k.moved) added ∙ ap (λ (m : ℕ). m + c.in-Ok-make_part.moved) next.moved in
+    record {
+      reads = reads_then g.D.Depot.holds g.D.Depot.taken g.D.Depot.stored g.D.Depot.faults g.D.Depot.attached Primary _ _ _ kept.reads next.reads;
+      few = omega (arith, ap blocks_in added, next.few, kept.few);
+      moved = omega (arith, moves, kept.moved, c.in-Ok-make_part.ensures.few, first_is, past_is, ordered);
+      made = λ edges t grid holds.
+          let here = on_grid_same edges cut table _ _ kept.reads.contents grid in
+          let sums = column_chunk p laws edges cut table _ j t c.feed_full.new.sums here sums_long (next.fed edges (values p edges t) here holds) in
+          subst (λ (m : ℕ). IsMadeBelow p edges cut (j + 1) t c.make_part.new.after m) (sym moves) (c.in-Ok-make_part.ensures.made edges t c.loop-j.counts.moved holds sums (kept.made edges t grid holds));
+      early = λ edges t grid holds on.
+          let here = on_grid_same edges cut table _ _ kept.reads.contents grid in
+          let fed = next.ahead edges (values p edges (suc t)) here on (kept.made edges t grid holds).chunk in
+          let part = early_made p edges cut j (values p edges (suc t)) c.feed_full.new.early grid.limits.some_parts early_long fed in
+          chunk_put (early_sum p edges (chunk_of cut) (values p edges (suc t))) c.loop-j.early c.feed_full.new.early first (past - first) (first_vertex n (chunk_of cut) j) (first_vertex n (chunk_of cut) (j + 1)) first_is
+          (omega (arith, early_long, first_is, past_is, ordered)) (omega (arith, c.loop-j.auto.early, c.requires.early_fits, ordered, inside)) (kept.early edges t grid holds on) part;
+      counted = λ edges grid.
+          let here = on_grid_same edges cut table _ _ kept.reads.contents grid in
+          added ∙ ap (λ (k : Counts). record k { moved = k.moved + c.in-Ok-make_part.moved }) (next.counted edges (places_below Full cut.parts j) c.loop-j.counts.moved here (kept.counted edges grid))
+          ∙ tally_moved edges (chunk_of cut) Full (places_below Full cut.parts j ++ places Full cut.parts j) c.loop-j.counts.moved c.in-Ok-make_part.moved
+          ∙ ap (λ bs. tally_of Full edges (chunk_of cut) bs (c.loop-j.counts.moved + c.in-Ok-make_part.moved)) (sym (below_more Full cut.parts j))
+          ∙ ap (tally_of Full edges (chunk_of cut) (places_below Full cut.parts (j + 1))) (sym moves);
+      taken = λ edges grid.
+          let here = on_grid_same edges cut table _ _ kept.reads.contents grid in
+          rose_then _ _ _ (bytes_of edges (chunk_of cut) (places_below Full cut.parts j)) (bytes_of edges (chunk_of cut) (places Full cut.parts j)) _
+          (ap (bytes_of edges (chunk_of cut)) (below_more Full cut.parts j) ∙ bytes_both edges (chunk_of cut) (places_below Full cut.parts j) (places Full cut.parts j)) (kept.taken edges grid) (next.taken edges here);
+    }
+
+pub returns-clause-made : goal.returns-clause-made
+returns-clause-made g c edges t grid holds =
+    let p = g.G.VertexProgram.model c.args.program.now in
+    let cut = c.args.layout.now.parts in
+    let all : c.loop-j.j ≡ cut.parts = omega (arith, c.loop-j.auto.j-end, c.loop-j-test.false, c.parts-j-end.ensures.value) in
+    let whole = all_parts cut c.loop-j.j grid.limits.some_parts all in
+    made_all p edges cut Full c.args.ahead c.loop-j.j t c.loop-j.after c.loop-j.early c.loop-j.counts grid.limits.some_parts all (c.loop-j.auto.after ∙ c.requires.after_fits)
+    (c.loop-j.invariant.made edges t grid holds) (c.loop-j.invariant.counted edges grid)
+    (λ on. subst (IsChunk (early_sum p edges (chunk_of cut) (values p edges (suc t))) 0) (take_all (first_vertex cut.vertices (chunk_of cut) c.loop-j.j) c.loop-j.early (omega (arith, whole, c.loop-j.auto.early, c.requires.early_fits))) (c.loop-j.invariant.early edges t grid holds on))
+
+pub returns-clause-taken : goal.returns-clause-taken
+returns-clause-taken g c edges grid low =
+    let cut = c.args.layout.now.parts in
+    let all : c.loop-j.j ≡ cut.parts = omega (arith, c.loop-j.auto.j-end, c.loop-j-test.false, c.parts-j-end.ensures.value) in
+    c.loop-j.invariant.taken edges grid low ∙ ap (λ (k : ℕ). g.D.Depot.taken c.args.depot.now Primary + bytes_of edges (chunk_of cut) (places_below Full cut.parts k)) all
+
+pub returns-in-Err-make_part-clause-made : goal.returns-in-Err-make_part-clause-made
+returns-in-Err-make_part-clause-made g c edges t grid holds =
+    let p = g.G.VertexProgram.model c.args.program.now in
+    let laws = g.met.G.VertexProgram.lawful c.args.program.now in
+    let cut = c.args.layout.now.parts in
+    let table = c.args.layout.now.table in
+    let j = c.loop-j.j in
+    let kept = c.loop-j.invariant in
+    let first_is = ap (λ (r : VertexRange). r.first) c.range_of-range.ensures.value in
+    let past_is = ap (λ (r : VertexRange). r.past) c.range_of-range.ensures.value in
+    let sums_long : length c.feed_full.new.sums ≡ part_length cut.vertices (chunk_of cut) j =
+    c.feed_full.auto.sums ∙ simp length-take (omega (arith, first_is, past_is, c.loop-j.auto.sums, c.requires.sums_fit, c.range_of-range.ensures.short)) in
+    let here = on_grid_same edges cut table _ _ kept.reads.contents grid in
+    let sums = column_chunk p laws edges cut table _ j t c.feed_full.new.sums here sums_long (c.in-Ok.ensures.fed edges (values p edges t) here holds) in
+    c.in-Err-make_part.ensures.made edges t c.loop-j.counts.moved holds sums (kept.made edges t grid holds)
+
+pub returns-in-Err-make_part-clause-reads : goal.returns-in-Err-make_part-clause-reads
+returns-in-Err-make_part-clause-reads g c =
+    reads_then g.D.Depot.holds g.D.Depot.taken g.D.Depot.stored g.D.Depot.faults g.D.Depot.attached Primary _ _ _ c.loop-j.invariant.reads c.in-Ok.ensures.reads

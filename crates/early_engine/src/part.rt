@@ -1,0 +1,75 @@
+// The values of a part, made of its sums.
+ghost use Rattle.std.specs.Prelude.{◌≡◌, ◌≤◌, ◌<◌, ◌+◌, ◌-◌, ℕ, true, List, Some, find, length, slice_index_or, IfErr, IfOk, MatchResult};
+ghost use Rattle.std.specs.List.{range_with_len};
+ghost use Rattle.lumos_base.specs.declared.records.Edge.{Edge};
+ghost use Rattle.lumos_law.specs.Sync.{is_over, sum_at, values, IsChunk};
+ghost use Rattle.partition.specs.Parts.{chunk_of, first_vertex, part_length};
+ghost use Rattle.early_engine.specs.Making.{IsOver};
+ghost use Rattle.early_engine.specs.Steps.{IsMadeBelow};
+
+use crate::layout::Layout;
+use flight_core::finalise;
+use lumos_base::{Fixed, Vertex};
+use lumos_law::VertexProgram;
+
+// Tells that the value and the sum by which a vertex is over are in range. The values and sums are those of the vertices
+// from `first` on.
+fn see_over<G: VertexProgram>(
+    program: &G,
+    vertex: Vertex,
+    first: u32,
+    before: &[G::Value],
+    sums: &[G::Sum],
+)
+    requires low { first ≤ vertex.0 }
+    requires high { vertex.0 < first + length before.now }
+    requires sums_fit { length sums.now ≡ length before.now }
+    requires over { (x : G.Value) (s : G.Sum) → x ≡ slice_index_or before.now (vertex.0 - first) x → s ≡ slice_index_or sums.now (vertex.0 - first) s
+        → (G.model program.now).over vertex.0 x s ≡ true }
+    ensures { IsOver G.Value.is_in_range G.Sum.is_in_range (G.model program.now) vertex.0 }
+{
+    let index = (vertex.0 - first) as usize;
+    before[index].in_range();
+    sums[index].in_range();
+}
+
+// Makes the values of part j after an iteration of those before it and the part's sums, and answers how many moved, or
+// the first vertex that is over. The parts below j are made.
+pub(crate) fn make_part<G: VertexProgram>(
+    program: &G,
+    layout: &Layout,
+    j: u32,
+    before: &[G::Value],
+    sums: &[G::Sum],
+    after: &mut [G::Value],
+) -> Result<u64, Vertex>
+    requires column { j < layout.now.parts.parts }
+    requires few { layout.now.parts.vertices ≤ 268435456 }
+    requires before_fits { length before.now ≡ layout.now.parts.vertices }
+    requires after_fits { length after.old ≡ layout.now.parts.vertices }
+    requires sums_fit { length sums.now ≡ part_length layout.now.parts.vertices (chunk_of layout.now.parts) j }
+    ensures few { IfOk result (λ moved. moved ≤ part_length layout.now.parts.vertices (chunk_of layout.now.parts) j) }
+    ensures made { (edges : List Edge) (t moved : ℕ) → IsChunk (values (G.model program.now) edges t) 0 before.now
+        → IsChunk (sum_at (G.model program.now) edges (values (G.model program.now) edges t)) (first_vertex layout.now.parts.vertices (chunk_of layout.now.parts) j) sums.now
+        → IsMadeBelow (G.model program.now) edges layout.now.parts j t after.old moved
+        → MatchResult result (λ more. IsMadeBelow (G.model program.now) edges layout.now.parts (j + 1) t after.new (moved + more))
+        (λ vertex. find (is_over (G.model program.now) edges t) (range_with_len 0 layout.now.parts.vertices) ≡ Some vertex.0) }
+    ensures over { IfErr result (λ vertex. IsOver G.Value.is_in_range G.Sum.is_in_range (G.model program.now) vertex.0) }
+{
+    let range = layout.parts.range_of(j);
+    let first = range.first as usize;
+    let past = range.past as usize;
+    let end = finalise(
+        program,
+        range.first,
+        &before[first..past],
+        sums,
+        &mut after[first..past],
+    );
+    let over = end.over;
+    if let Some(vertex) = over {
+        see_over(program, vertex, range.first, &before[first..past], sums);
+        return Err(vertex);
+    }
+    Ok(end.moved)
+}

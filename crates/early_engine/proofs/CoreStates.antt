@@ -1,5 +1,5 @@
 -- What stands in the core after the first iterations, and that an engine keeps the same.
-use Rattle.std.proofs.Common.{◌≡◌, ◌&&◌, ℕ, suc, ◌+◌, ◌<◌, ◌≤◌, nat_lt, true, false, List, length, drop, Some, sym, ap, ◌∙◌, arith}
+use Rattle.std.proofs.Common.{◌≡◌, ◌&&◌, ℕ, suc, ◌+◌, ◌<◌, ◌≤◌, nat_lt, Bool, List, length, drop, Some, sym, ap, ◌∙◌, arith}
 use Rattle.std.proofs.lemmas.Bool.{le-ltb, lt-ltb}
 use Rattle.std.proofs.lemmas.List.{length-drop, length-take}
 use Rattle.lumos_base.specs.declared.records.Edge.{Edge}
@@ -13,10 +13,11 @@ use Rattle.flight_core.specs.EdgeList.{IsEdgeList}
 use Rattle.flight_core.specs.Events.{State, is_done, is_final, kept_of, start, sums_of}
 use Rattle.flight_core.proofs.EachLemmas.{chunk_unique}
 use Rattle.flight_core.proofs.LookLemmas.{some_of}
-use Rattle.early_engine.specs.Core.{Hot, IsCoreState, IsSilent, StandsAfter, always, chunk_in, core_state, passes_to}
+use Rattle.early_engine.specs.Core.{IsCoreState, IsSilent, StandsAfter, chunk_in, core_state, passes_to}
 use Rattle.early_engine.specs.Early.{IsKept, early_sum}
-use Rattle.early_engine.specs.Passes.{feeds_ahead}
+use Rattle.early_engine.specs.Passes.{Hot, feeds_ahead, is_hot}
 use Rattle.early_engine.specs.declared.options.Mode.{Mode}
+use Rattle.early_engine.proofs.FlagLemmas.{cold_silent}
 use Rattle.early_engine.proofs.EarlyLink.{early_chunk}
 use Rattle.early_engine.proofs.PassSteps.{Begins, Leaves, passes_leave}
 use Rattle.early_engine.proofs.TurnTests.{done_now, final_now}
@@ -64,14 +65,14 @@ module _ {V S : Type 0} {ValueIn : V → Type 0} {SumIn : S → Type 0} (p : Pro
         done i j row column = left.stands.now i j row column ∙ done_now (feeds_ahead mode limit t) i j
 
   -- what an engine keeps is what the core does
-  pub core_state_of : (cut : Cut) (mode : Mode) (limit t : ℕ) (items : List V) (sums : List S) → 0 < cut.parts → IsEdgeList cut.vertices edges → limit ≤ 1000000 → t ≤ limit
-      → length items ≡ cut.vertices → length sums ≡ cut.vertices → IsKept p edges cut mode limit t items sums → IsCoreState p edges cut mode limit t items sums
-  core_state_of cut mode limit t items sums some list inside most long_items long_sums kept =
+  pub core_state_of : (cut : Cut) (mode : Mode) (limit t : ℕ) (items : List V) (sums : List S) (flags : List Bool) → 0 < cut.parts → IsEdgeList cut.vertices edges → limit ≤ 1000000 → t ≤ limit
+      → length items ≡ cut.vertices → length sums ≡ cut.vertices → IsKept p edges cut mode limit t items sums flags → IsCoreState p edges cut mode limit t items sums
+  core_state_of cut mode limit t items sums flags some list inside most long_items long_sums kept =
       let n = cut.vertices in
       let c = chunk_of cut in
-      let s = core_state p edges n cut.parts always mode limit t in
-      let never : IsSilent p edges n c always = λ u i v off within. absurd (let e : true ≡ false = off in cc) in
-      let stands = stands_after n cut.parts 1000000 always mode limit t some list never inside most in
+      let hot = is_hot p edges n cut.parts in
+      let s = core_state p edges n cut.parts hot mode limit t in
+      let stands = stands_after n cut.parts 1000000 hot mode limit t some list (cold_silent p edges n cut.parts) inside most in
       record {
         legal = stands.legal;
         finals = λ j low.

@@ -9,6 +9,7 @@ use Rattle.lumos_depot.specs.declared.depot.FileKind.TheVariants.{Meta, Primary,
 use Rattle.partition.specs.Blocks.{block}
 use Rattle.partition.specs.Parts.{Cut, chunk_of, part_range, IsInPart}
 use Rattle.partition.specs.declared.records.VertexRange.{VertexRange}
+use Rattle.flight_core.specs.EdgeList.{IsEdgeList}
 use Rattle.grid_format.specs.Grid.{HasGrid, grid, grid_table}
 use Rattle.grid_format.specs.Tables.{BlockCounts, count_at}
 use Rattle.grid_format.proofs.GridBlocks.{count_is}
@@ -43,6 +44,10 @@ on_grid_same edges cut table old new same grid = record {
   };
   counts = grid.counts;
 }
+
+-- the edges of a grid
+pub grid_list : (edges : List Edge) (cut : Cut) (table : BlockCounts) (told : FileKind → Option (List ℕ)) → IsOnGrid edges cut table told → IsEdgeList cut.vertices edges
+grid_list edges cut table told grid = record { few = grid.limits.few; numbers = grid.numbers; ends = grid.limits.ends }
 
 -- the table's numbers are those of the blocks
 pub size_is : (edges : List Edge) (cut : Cut) (table : BlockCounts) (told : FileKind → Option (List ℕ)) (i j : ℕ) → i < cut.parts → j < cut.parts → IsOnGrid edges cut table told → count_at table i j ≡ length (block edges (chunk_of cut) i j)

@@ -1,7 +1,9 @@
 pub mod CoreStates
 pub mod EarlyLink
 pub mod FeedLemmas
+pub mod FlagLemmas
 pub mod GridLemmas
+pub mod HotLemmas
 pub mod KindLemmas
 pub mod MadeLemmas
 pub mod Moving

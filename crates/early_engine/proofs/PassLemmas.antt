@@ -1,7 +1,7 @@
 -- One block more among those that an iteration goes through.
-use Rattle.std.proofs.Common.{◌≡◌, ◌==◌, ◌<◌, ℕ, ◌+◌, ◌*◌, Bool, true, false, cond, nat_lt, List, [], ◌∷◌, ◌++◌, flat_map, length, map, count_by, sum_by, refl, sym, ap, ap₂, ◌∙◌, arith, add-one, append-nil, length-append}
+use Rattle.std.proofs.Common.{◌≡◌, ◌==◌, ◌<◌, ℕ, ◌+◌, ◌*◌, ◌&&◌, Bool, true, false, not, cond, nat_lt, List, [], ◌∷◌, ◌++◌, flat_map, length, map, count_by, sum_by, refl, sym, ap, ap₂, ◌∙◌, arith, add-one, append-nil, length-append}
 use Rattle.std.specs.List.{range_with_len}
-use Rattle.std.proofs.lemmas.Bool.Decides.{nat_tests}
+use Rattle.std.proofs.lemmas.Bool.{eq-eqb, lt-ltb, ne_eqb}
 use Rattle.std.proofs.lemmas.Grind.{flat_map-append}
 use Rattle.std.proofs.lemmas.List.{map-append}
 use Rattle.std.proofs.lemmas.List.Elements.{filter-append}
@@ -37,9 +37,13 @@ below_more kind p n =
     ∙ ap (λ l. places_below kind p n ++ l) (append-nil (places kind p n))
 
 -- what an iteration of a kind counts that read so many blocks
-abbrev counted_as : Kind → ℕ → ℕ → ℕ → Counts
-counted_as Full read empty moved = record { primary = read; secondary = 0; skipped = 0; empty = empty; moved = moved }
-counted_as Fed read empty moved = record { primary = 0; secondary = read; skipped = 0; empty = empty; moved = moved }
+abbrev counted_as : Kind → ℕ → ℕ → ℕ → ℕ → Counts
+counted_as Full read skipped empty moved = record { primary = read; secondary = 0; skipped = skipped; empty = empty; moved = moved }
+counted_as Fed read skipped empty moved = record { primary = 0; secondary = read; skipped = skipped; empty = empty; moved = moved }
+
+-- one block more that isn't needed
+abbrev pub with_skipped : Counts → Counts
+with_skipped counts = record counts { skipped = counts.skipped + 1 }
 
 -- one block more without edges
 abbrev pub with_empty : Counts → Counts
@@ -53,81 +57,123 @@ one_sum : (b : Bool) (f : Place → ℕ) (x : Place) → sum_by f (cond b (x ∷
 one_sum true f x = omega arith
 one_sum false f x = omega arith
 
-whole_block : (n : ℕ) → cond (nat_lt 0 n) (12 * n) 0 ≡ 12 * n
-whole_block n = grind (arith, nat_tests)
+no_and : (b : Bool) → (b && false) ≡ false
+no_and true = refl
+no_and false = refl
 
-some_one : (n : ℕ) → 0 < n → ◌≡◌ {A = ℕ} (cond (nat_lt 0 n) 1 0) 1
-some_one n some = grind (arith, nat_tests)
+some_edges : (n : ℕ) → 0 < n → nat_lt 0 n ≡ true
+some_edges n some = lt-ltb 0 n some
 
-some_not : (n : ℕ) → 0 < n → ◌≡◌ {A = ℕ} (cond (n == 0) 1 0) 0
-some_not n some = grind (arith, nat_tests)
+no_edges : (n : ℕ) → n ≡ 0 → nat_lt 0 n ≡ false
+no_edges n none = ap (nat_lt 0) none
 
-none_one : (n : ℕ) → n ≡ 0 → ◌≡◌ {A = ℕ} (cond (n == 0) 1 0) 1
-none_one n none = grind (arith, nat_tests)
+none_more : (n : ℕ) → n + 0 ≡ n
+none_more n = omega arith
 
-none_not : (n : ℕ) → n ≡ 0 → ◌≡◌ {A = ℕ} (cond (nat_lt 0 n) 1 0) 0
-none_not n none = grind (arith, nat_tests)
+-- how many blocks pass a test, with one block more
+counted_more : (q : Place → Bool) (bs : List Place) (b : Place) (is : Bool) → q b ≡ is → count_by q (bs ++ b ∷ []) ≡ count_by q bs + cond is 1 0
+counted_more q bs b is same =
+    let last : count_by q (b ∷ []) ≡ cond (q b) 1 0 = omega arith in
+    sum_by-append (λ x. cond (q x) 1 0) bs (b ∷ []) ∙ ap (λ (n : ℕ). count_by q bs + n) last ∙ ap (λ (t : Bool). count_by q bs + cond t 1 0) same
 
-module _ (edges : List Edge) (c : ℕ) where
-  -- the bytes of one block more
-  pub bytes_more : (bs : List Place) (b : Place) → bytes_of edges c (bs ++ b ∷ []) ≡ bytes_of edges c bs + 12 * size_at edges c b
-  bytes_more bs b =
-      let f : Place → ℕ = λ x. 12 * size_at edges c x in
-      ap (sum_by f) (filter-append (λ x. nat_lt 0 (size_at edges c x)) bs (b ∷ []))
-      ∙ sum_by-append f (reads edges c bs) (cond (nat_lt 0 (size_at edges c b)) (b ∷ []) [])
-      ∙ ap (λ (n : ℕ). bytes_of edges c bs + n) (one_sum (nat_lt 0 (size_at edges c b)) f b ∙ whole_block (size_at edges c b))
+counted_same : (q : Place → Bool) (bs : List Place) (b : Place) → q b ≡ false → count_by q (bs ++ b ∷ []) ≡ count_by q bs
+counted_same q bs b not_it = counted_more q bs b false not_it ∙ none_more (count_by q bs)
+
+one_read_more : (kind : Kind) (read skipped empty moved : ℕ) → counted_as kind (read + 1) skipped empty moved ≡ with_read kind (counted_as kind read skipped empty moved)
+one_read_more Full read skipped empty moved = refl
+one_read_more Fed read skipped empty moved = refl
+
+one_skipped_more : (kind : Kind) (read skipped empty moved : ℕ) → counted_as kind read (skipped + 1) empty moved ≡ with_skipped (counted_as kind read skipped empty moved)
+one_skipped_more Full read skipped empty moved = refl
+one_skipped_more Fed read skipped empty moved = refl
+
+one_empty_more : (kind : Kind) (read skipped empty moved : ℕ) → counted_as kind read skipped (empty + 1) moved ≡ with_empty (counted_as kind read skipped empty moved)
+one_empty_more Full read skipped empty moved = refl
+one_empty_more Fed read skipped empty moved = refl
+
+module _ (edges : List Edge) (c : ℕ) (need : Place → Bool) where
+  abbrev is_read : Place → Bool
+  is_read b = nat_lt 0 (size_at edges c b) && need b
+
+  abbrev is_skipped : Place → Bool
+  is_skipped b = nat_lt 0 (size_at edges c b) && not (need b)
+
+  abbrev is_empty : Place → Bool
+  is_empty b = size_at edges c b == 0
 
   -- the bytes of some blocks and of others
-  pub bytes_both : (some bs : List Place) → bytes_of edges c (some ++ bs) ≡ bytes_of edges c some + bytes_of edges c bs
+  pub bytes_both : (some bs : List Place) → bytes_of edges c need (some ++ bs) ≡ bytes_of edges c need some + bytes_of edges c need bs
   bytes_both some bs =
-      ap (sum_by (λ x. 12 * size_at edges c x)) (filter-append (λ x. nat_lt 0 (size_at edges c x)) some bs)
-      ∙ sum_by-append (λ x. 12 * size_at edges c x) (reads edges c some) (reads edges c bs)
+      ap (sum_by (λ x. 12 * size_at edges c x)) (filter-append is_read some bs)
+      ∙ sum_by-append (λ x. 12 * size_at edges c x) (reads edges c need some) (reads edges c need bs)
 
-  read_more : (bs : List Place) (b : Place) → length (reads edges c (bs ++ b ∷ [])) ≡ length (reads edges c bs) + cond (nat_lt 0 (size_at edges c b)) 1 0
-  read_more bs b =
-      ap length (filter-append (λ x. nat_lt 0 (size_at edges c x)) bs (b ∷ []))
-      ∙ length-append (reads edges c bs) (cond (nat_lt 0 (size_at edges c b)) (b ∷ []) [])
-      ∙ ap (λ (n : ℕ). length (reads edges c bs) + n) (one_read (nat_lt 0 (size_at edges c b)) b)
+  one_block : (b : Place) (is : Bool) → is_read b ≡ is → bytes_of edges c need (b ∷ []) ≡ cond is (12 * size_at edges c b) 0
+  one_block b is same = one_sum (is_read b) (λ x. 12 * size_at edges c x) b ∙ ap (λ t. cond t (12 * size_at edges c b) 0) same
 
-  abbrev none_at : List Place → ℕ
-  none_at bs = count_by (λ b. size_at edges c b == 0) bs
+  -- those of a block that is read
+  pub bytes_read : (b : Place) → 0 < size_at edges c b → need b ≡ true → bytes_of edges c need (b ∷ []) ≡ 12 * size_at edges c b
+  bytes_read b some is = one_block b true (ap₂ (λ (x : Bool) (y : Bool). x && y) (some_edges (size_at edges c b) some) is)
 
-  empty_more : (bs : List Place) (b : Place) → none_at (bs ++ b ∷ []) ≡ none_at bs + cond (size_at edges c b == 0) 1 0
-  empty_more bs b =
-      let last : none_at (b ∷ []) ≡ cond (size_at edges c b == 0) 1 0 = omega arith in
-      sum_by-append (λ x. cond (size_at edges c x == 0) 1 0) bs (b ∷ []) ∙ ap (λ (n : ℕ). none_at bs + n) last
+  -- of one that isn't needed
+  pub bytes_skipped : (b : Place) → need b ≡ false → bytes_of edges c need (b ∷ []) ≡ 0
+  bytes_skipped b is = one_block b false (ap (λ x. nat_lt 0 (size_at edges c b) && x) is ∙ no_and (nat_lt 0 (size_at edges c b)))
 
-  counted_is : (kind : Kind) (bs : List Place) (moved : ℕ) → tally_of kind edges c bs moved ≡ counted_as kind (length (reads edges c bs)) (none_at bs) moved
-  counted_is Full bs moved = refl
-  counted_is Fed bs moved = refl
+  -- of one without edges
+  pub bytes_empty : (b : Place) → size_at edges c b ≡ 0 → bytes_of edges c need (b ∷ []) ≡ 0
+  bytes_empty b none = one_block b false (ap (λ x. x && need b) (no_edges (size_at edges c b) none))
 
-  one_counted : (kind : Kind) (read empty moved : ℕ) → counted_as kind (read + 1) empty moved ≡ with_read kind (counted_as kind read empty moved)
-  one_counted Full read empty moved = refl
-  one_counted Fed read empty moved = refl
+  read_more : (bs : List Place) (b : Place) (is : Bool) → is_read b ≡ is → length (reads edges c need (bs ++ b ∷ [])) ≡ length (reads edges c need bs) + cond is 1 0
+  read_more bs b is same =
+      ap length (filter-append is_read bs (b ∷ []))
+      ∙ length-append (reads edges c need bs) (cond (is_read b) (b ∷ []) [])
+      ∙ ap (λ (n : ℕ). length (reads edges c need bs) + n) (one_read (is_read b) b)
+      ∙ ap (λ (t : Bool). length (reads edges c need bs) + cond t 1 0) same
 
-  one_empty : (kind : Kind) (read empty moved : ℕ) → counted_as kind read (empty + 1) moved ≡ with_empty (counted_as kind read empty moved)
-  one_empty Full read empty moved = refl
-  one_empty Fed read empty moved = refl
+  read_same : (bs : List Place) (b : Place) → is_read b ≡ false → length (reads edges c need (bs ++ b ∷ [])) ≡ length (reads edges c need bs)
+  read_same bs b not_it = read_more bs b false not_it ∙ none_more (length (reads edges c need bs))
+
+  tally_is : (kind : Kind) (bs : List Place) (moved read skipped empty : ℕ) → length (reads edges c need bs) ≡ read → count_by is_skipped bs ≡ skipped → count_by is_empty bs ≡ empty
+      → tally_of kind edges c need bs moved ≡ counted_as kind read skipped empty moved
+  tally_is Full bs moved read skipped empty first second third = λ i. counted_as Full (first i) (second i) (third i) moved
+  tally_is Fed bs moved read skipped empty first second third = λ i. counted_as Fed (first i) (second i) (third i) moved
+
+  as_counted : (kind : Kind) (bs : List Place) (moved : ℕ) → counted_as kind (length (reads edges c need bs)) (count_by is_skipped bs) (count_by is_empty bs) moved ≡ tally_of kind edges c need bs moved
+  as_counted kind bs moved = sym (tally_is kind bs moved _ _ _ refl refl refl)
 
   -- a block that is read
-  pub tally_read : (kind : Kind) (bs : List Place) (b : Place) (moved : ℕ) → 0 < size_at edges c b → tally_of kind edges c (bs ++ b ∷ []) moved ≡ with_read kind (tally_of kind edges c bs moved)
-  tally_read kind bs b moved some =
-      let none : none_at bs + cond (size_at edges c b == 0) 1 0 ≡ none_at bs = omega (arith, some_not (size_at edges c b) some) in
-      counted_is kind (bs ++ b ∷ []) moved
-      ∙ ap₂ (λ (m : ℕ) (k : ℕ). counted_as kind m k moved) (read_more bs b ∙ ap (λ (n : ℕ). length (reads edges c bs) + n) (some_one (size_at edges c b) some)) (empty_more bs b ∙ none)
-      ∙ one_counted kind (length (reads edges c bs)) (none_at bs) moved
-      ∙ ap (with_read kind) (sym (counted_is kind bs moved))
+  pub tally_read : (kind : Kind) (bs : List Place) (b : Place) (moved : ℕ) → 0 < size_at edges c b → need b ≡ true → tally_of kind edges c need (bs ++ b ∷ []) moved ≡ with_read kind (tally_of kind edges c need bs moved)
+  tally_read kind bs b moved some is =
+      let there = some_edges (size_at edges c b) some in
+      tally_is kind (bs ++ b ∷ []) moved (length (reads edges c need bs) + 1) (count_by is_skipped bs) (count_by is_empty bs)
+      (read_more bs b true (ap₂ (λ (x : Bool) (y : Bool). x && y) there is))
+      (counted_same is_skipped bs b (ap₂ (λ (x : Bool) (y : Bool). x && not y) there is))
+      (counted_same is_empty bs b (ne_eqb (size_at edges c b) 0 (λ none. omega arith)))
+      ∙ one_read_more kind (length (reads edges c need bs)) (count_by is_skipped bs) (count_by is_empty bs) moved
+      ∙ ap (with_read kind) (as_counted kind bs moved)
+
+  -- a block that isn't needed
+  pub tally_skipped : (kind : Kind) (bs : List Place) (b : Place) (moved : ℕ) → 0 < size_at edges c b → need b ≡ false → tally_of kind edges c need (bs ++ b ∷ []) moved ≡ with_skipped (tally_of kind edges c need bs moved)
+  tally_skipped kind bs b moved some is =
+      let there = some_edges (size_at edges c b) some in
+      tally_is kind (bs ++ b ∷ []) moved (length (reads edges c need bs)) (count_by is_skipped bs + 1) (count_by is_empty bs)
+      (read_same bs b (ap₂ (λ (x : Bool) (y : Bool). x && y) there is))
+      (counted_more is_skipped bs b true (ap₂ (λ (x : Bool) (y : Bool). x && not y) there is))
+      (counted_same is_empty bs b (ne_eqb (size_at edges c b) 0 (λ none. omega arith)))
+      ∙ one_skipped_more kind (length (reads edges c need bs)) (count_by is_skipped bs) (count_by is_empty bs) moved
+      ∙ ap with_skipped (as_counted kind bs moved)
 
   -- a block without edges
-  pub tally_empty : (kind : Kind) (bs : List Place) (b : Place) (moved : ℕ) → size_at edges c b ≡ 0 → tally_of kind edges c (bs ++ b ∷ []) moved ≡ with_empty (tally_of kind edges c bs moved)
+  pub tally_empty : (kind : Kind) (bs : List Place) (b : Place) (moved : ℕ) → size_at edges c b ≡ 0 → tally_of kind edges c need (bs ++ b ∷ []) moved ≡ with_empty (tally_of kind edges c need bs moved)
   tally_empty kind bs b moved none =
-      let unread : length (reads edges c bs) + cond (nat_lt 0 (size_at edges c b)) 1 0 ≡ length (reads edges c bs) = omega (arith, none_not (size_at edges c b) none) in
-      counted_is kind (bs ++ b ∷ []) moved
-      ∙ ap₂ (λ (m : ℕ) (k : ℕ). counted_as kind m k moved) (read_more bs b ∙ unread) (empty_more bs b ∙ ap (λ (n : ℕ). none_at bs + n) (none_one (size_at edges c b) none))
-      ∙ one_empty kind (length (reads edges c bs)) (none_at bs) moved
-      ∙ ap with_empty (sym (counted_is kind bs moved))
+      let gone = no_edges (size_at edges c b) none in
+      tally_is kind (bs ++ b ∷ []) moved (length (reads edges c need bs)) (count_by is_skipped bs) (count_by is_empty bs + 1)
+      (read_same bs b (ap (λ (x : Bool). x && need b) gone))
+      (counted_same is_skipped bs b (ap (λ (x : Bool). x && not (need b)) gone))
+      (counted_more is_empty bs b true (eq-eqb (size_at edges c b) 0 none))
+      ∙ one_empty_more kind (length (reads edges c need bs)) (count_by is_skipped bs) (count_by is_empty bs) moved
+      ∙ ap with_empty (as_counted kind bs moved)
 
   -- more values that moved
-  pub tally_moved : (kind : Kind) (bs : List Place) (moved more : ℕ) → record (tally_of kind edges c bs moved) { moved = (tally_of kind edges c bs moved).moved + more } ≡ tally_of kind edges c bs (moved + more)
+  pub tally_moved : (kind : Kind) (bs : List Place) (moved more : ℕ) → record (tally_of kind edges c need bs moved) { moved = (tally_of kind edges c need bs moved).moved + more } ≡ tally_of kind edges c need bs (moved + more)
   tally_moved Full bs moved more = refl
   tally_moved Fed bs moved more = refl

@@ -15,8 +15,8 @@ use Rattle.flight_core.specs.declared.event.Event.TheVariants.{Feed, Skip, Final
 use Rattle.flight_core.proofs.EventLemmas.{legal_event, source_at}
 use Rattle.flight_core.proofs.LookLemmas.{some_of}
 use Rattle.flight_core.proofs.StartLemmas.{sound_start, start_has, start_kept}
-use Rattle.early_engine.specs.Core.{Hot, IsSilent, block_events, column_events, event_of, pass, passes_to}
-use Rattle.early_engine.specs.Passes.{feeds_ahead, rows_of}
+use Rattle.early_engine.specs.Core.{IsSilent, block_events, column_events, event_of, pass, passes_to}
+use Rattle.early_engine.specs.Passes.{Hot, feeds_ahead, rows_of}
 use Rattle.early_engine.specs.declared.options.Mode.{Mode}
 use Rattle.early_engine.proofs.TurnTests.{ahead_low, ahead_turns, ahead_zero, before_final, column_final, column_next, column_now, comes_before, final_at, first_final_more, first_final_zero, first_low, first_on, first_row, kind_by, kind_next, later_open, next_fresh, not_final, now_fresh, row_ahead, row_behind, row_now, rows_are, rows_done, source_final, turn_final, turn_next, turn_now}
 

@@ -1,5 +1,5 @@
 -- How many blocks an iteration reads at most.
-use Rattle.std.proofs.Common.{◌≡◌, ℕ, zero, suc, ◌+◌, ◌-◌, ◌*◌, ◌/◌, ◌≤◌, nat_lt, List, flat_map, length, ◌∙◌, arith, add-one, length-append}
+use Rattle.std.proofs.Common.{◌≡◌, ℕ, zero, suc, ◌+◌, ◌-◌, ◌*◌, ◌/◌, ◌≤◌, ◌&&◌, Bool, nat_lt, List, flat_map, length, ◌∙◌, arith, add-one, length-append}
 use Rattle.std.specs.List.{range_with_len}
 use Rattle.std.proofs.Math.Nat.{add-mul}
 use Rattle.std.proofs.lemmas.List.{length-map}
@@ -10,9 +10,10 @@ use Rattle.lumos_report.specs.declared.records.Kind.{Kind}
 use Rattle.lumos_report.specs.declared.records.Kind.TheVariants.{Full, Fed}
 use Rattle.early_engine.specs.Passes.{Place, passes, place_at, places, reads, rows_of, size_at}
 
-read_few : (edges : List Edge) (c : ℕ) (bs : List Place) → length (reads edges c bs) ≤ length bs
-read_few edges c bs =
-    omega (arith, length-filter (λ b. nat_lt 0 (size_at edges c b)) bs, count_by-le-length (λ b. nat_lt 0 (size_at edges c b)) bs)
+read_few : (edges : List Edge) (c : ℕ) (need : Place → Bool) (bs : List Place) → length (reads edges c need bs) ≤ length bs
+read_few edges c need bs =
+    let test : Place → Bool = λ b. nat_lt 0 (size_at edges c b) && need b in
+    omega (arith, length-filter test bs, count_by-le-length test bs)
 
 rows_long : (kind : Kind) (p j : ℕ) → length (places kind p j) ≡ length (rows_of kind p j)
 rows_long kind p j = length-map (rows_of kind p j) (λ i. place_at i j)
@@ -36,10 +37,10 @@ fed_long p (suc n) a all =
     let product : suc n * (suc n + 1) ≡ n * (n + 1) + 2 * suc n = grind arith in
     omega (arith, one, more, rest, product, all)
 
-pub full_few : (edges : List Edge) (c p : ℕ) → length (reads edges c (passes Full p)) ≤ p * p
-full_few edges c p = omega (arith, read_few edges c (passes Full p), full_long p p 0)
+pub full_few : (edges : List Edge) (c p : ℕ) (need : Place → Bool) → length (reads edges c need (passes Full p)) ≤ p * p
+full_few edges c p need = omega (arith, read_few edges c need (passes Full p), full_long p p 0)
 
-pub fed_few : (edges : List Edge) (c p : ℕ) → length (reads edges c (passes Fed p)) ≤ p * (p + 1) / 2
-fed_few edges c p =
+pub fed_few : (edges : List Edge) (c p : ℕ) (need : Place → Bool) → length (reads edges c need (passes Fed p)) ≤ p * (p + 1) / 2
+fed_few edges c p need =
     let same : 0 + p ≡ p = omega arith in
-    omega (arith, read_few edges c (passes Fed p), fed_long p p 0 same)
+    omega (arith, read_few edges c need (passes Fed p), fed_long p p 0 same)

@@ -1,5 +1,5 @@
 -- The iterations of a run, one after another.
-use Rattle.std.proofs.Common.{◌≡◌, ◌⊎◌, inl, inr, ◌<◌, ◌≤◌, ℕ, suc, ◌+◌, ◌-◌, List, [], ◌++◌, Option, Some, None, Result, Ok, Err, refl, sym, ap, ap₂, ◌∙◌, subst, arith, add-one, append-nil, append_assoc}
+use Rattle.std.proofs.Common.{◌≡◌, ◌⊎◌, inl, inr, ◌<◌, ◌≤◌, ℕ, suc, ◌+◌, ◌-◌, Bool, List, [], ◌++◌, Option, Some, None, Result, Ok, Err, refl, sym, ap, ap₂, ◌∙◌, subst, arith, add-one, append-nil, append_assoc}
 use Rattle.std.proofs.lemmas.Bool.{cases_eq}
 use Rattle.lumos_base.specs.declared.records.Edge.{Edge}
 use Rattle.lumos_depot.specs.Streams.{AppendsFront, after_told}
@@ -8,14 +8,14 @@ use Rattle.lumos_depot.specs.declared.depot.FileKind.TheVariants.{Primary, Secon
 use Rattle.lumos_depot.proofs.Written.{after_told-after, front_behind, front_longer, front_none, front_whole}
 use Rattle.lumos_law.specs.Program.{Program}
 use Rattle.lumos_law.specs.Sync.{Ending as EndingOf, over_in, ending, ending_from}
-use Rattle.partition.specs.Parts.{Cut, chunk_of}
+use Rattle.partition.specs.Parts.{Cut}
 use Rattle.grid_format.specs.declared.head.GridInfo.{GridInfo}
 use Rattle.lumos_report.specs.declared.records.Ending.{Ending}
 use Rattle.lumos_report.specs.declared.records.Why.{Why}
 use Rattle.lumos_report.specs.declared.records.Why.TheVariants.{Still, Limit}
 use Rattle.value_files.specs.Outside.{RoseBy}
-use Rattle.early_engine.specs.Engines.{EngineState, IsSameRun, IsStanding, cut_in}
-use Rattle.early_engine.specs.Passes.{kind_of, primary_bytes, primary_taken, secondary_bytes, secondary_taken}
+use Rattle.early_engine.specs.Engines.{EngineState, IsSameRun, IsStanding}
+use Rattle.early_engine.specs.Passes.{primary_bytes, primary_taken, secondary_bytes, secondary_taken}
 use Rattle.early_engine.specs.Report.{closing_line, end_line, finished, first_lines, later_lines, turn_lines, turn_text}
 use Rattle.early_engine.specs.Runs.{RunComes}
 use Rattle.early_engine.specs.Starts.{StartComes}
@@ -34,9 +34,9 @@ by_why_finished : (why : Why) (t : ℕ) → finished (ending_by_why why t) ≡ t
 by_why_finished Still t = refl
 by_why_finished Limit t = refl
 
-module _ {V S : Type 0} (p : Program V S) (show : Show) (mode : Mode) (edges : List Edge) (cut : Cut) (limit t : ℕ) (is : ending p edges cut.vertices limit ≡ ending_from p edges cut.vertices (limit - t) t) (written mid after : Option (List ℕ)) (items : List V) (sums : List S) where
+module _ {V S : Type 0} (p : Program V S) (show : Show) (mode : Mode) (edges : List Edge) (cut : Cut) (limit t : ℕ) (is : ending p edges cut.vertices limit ≡ ending_from p edges cut.vertices (limit - t) t) (written mid after : Option (List ℕ)) (items : List V) (sums : List S) (flags : List Bool) where
   abbrev lines : ℕ → List ℕ
-  lines = turn_lines p show mode edges cut.vertices cut.parts
+  lines = turn_lines p show mode edges cut.vertices cut.parts limit
 
   abbrev end : EndingOf
   end = ending p edges cut.vertices limit
@@ -48,7 +48,7 @@ module _ {V S : Type 0} (p : Program V S) (show : Show) (mode : Mode) (edges : L
   text = turn_text p show mode edges cut.vertices cut.parts limit t
 
   -- the lines of an iteration behind which the run goes on
-  pub going_text : mid ≡ after_told written (texts lines t) → HasTurned p show mode edges cut limit t items sums mid after Going → after ≡ after_told written (texts lines (t + 1))
+  pub going_text : mid ≡ after_told written (texts lines t) → HasTurned p show mode edges cut limit t items sums flags mid after Going → after ≡ after_told written (texts lines (t + 1))
   going_text before turned =
       let left : limit - suc t ≡ suc (limit - suc t - 1) = let low : suc t < limit = turned.tells.0 in omega arith in
       let none = ap (closing_line (suc t)) (turned.tells.1 ∙ ap (λ (k : ℕ). ending_from p edges cut.vertices k (suc t)) left) ∙ closing_next p edges cut.vertices (limit - suc t - 1) (suc t) in
@@ -78,7 +78,7 @@ module _ {V S : Type 0} (p : Program V S) (show : Show) (mode : Mode) (edges : L
       )
 
   -- the run ends with an iteration
-  pub ended_comes : (ending : Ending) → mid ≡ after_told written (texts lines t) → HasTurned p show mode edges cut limit t items sums mid after (Ended ending) → RunComes end later written after (Ok ending)
+  pub ended_comes : (ending : Ending) → mid ≡ after_told written (texts lines t) → HasTurned p show mode edges cut limit t items sums flags mid after (Ended ending) → RunComes end later written after (Ok ending)
   ended_comes ending before turned =
       let last : finished end ≡ suc t = ap finished turned.tells.0 ∙ by_why_finished ending.why ending.iterations ∙ turned.tells.1 in (
         turned.tells.0,
@@ -98,7 +98,7 @@ module _ {V S : Type 0} (p : Program V S) (show : Show) (mode : Mode) (edges : L
       sym (append-nil (texts lines t)) ∙ ap₂ (λ (k : ℕ) (e : EndingOf). texts lines k ++ end_line e) (sym done) (sym over)
 
   -- the run stops in an iteration
-  pub stopped_comes : (fault : RunFault) → mid ≡ after_told written (texts lines t) → TurnComes p show mode edges cut limit t items sums mid after (Err fault) → RunComes end later written after (Err fault)
+  pub stopped_comes : (fault : RunFault) → mid ≡ after_told written (texts lines t) → TurnComes p show mode edges cut limit t items sums flags mid after (Err fault) → RunComes end later written after (Err fault)
   stopped_comes Depot before same = subst (λ m. AppendsFront written m later) (sym same) (before_front before)
   stopped_comes Out before cut_off =
       let within = text_within cut_off.1 (cases_eq (suc t) (finished end)) in
@@ -133,7 +133,7 @@ same_self a = record { program = refl; options = refl; info = refl; table = refl
 
 module _ {G V S : Type 0} (model : G → Program V S) (edges : List Edge) where
   abbrev pub lines_of : Key G → ℕ → List ℕ
-  lines_of k = turn_lines (model k.program) k.options.show k.options.mode edges k.info.vertices k.info.parts
+  lines_of k = turn_lines (model k.program) k.options.show k.options.mode edges k.info.vertices k.info.parts k.options.iterations
 
   abbrev pub end_of : Key G → EndingOf
   end_of k = ending (model k.program) edges k.info.vertices k.options.iterations
@@ -141,18 +141,18 @@ module _ {G V S : Type 0} (model : G → Program V S) (edges : List Edge) where
   abbrev pub later_of : Key G → List ℕ
   later_of k = later_lines (model k.program) k.options.show k.options.mode edges k.info.vertices k.info.parts k.options.iterations
 
-  -- what iteration t takes of the two files, and what the first n take
+  -- what an iteration takes of the two files, and what the first ones take
   abbrev pub primary_at : Key G → ℕ → ℕ
-  primary_at k t = primary_bytes (kind_of k.options.mode t) edges (chunk_of (cut_in k.info)) k.info.parts
+  primary_at k = primary_bytes (model k.program) edges k.info.vertices k.info.parts k.options.mode k.options.iterations
 
   abbrev pub secondary_at : Key G → ℕ → ℕ
-  secondary_at k t = secondary_bytes (kind_of k.options.mode t) edges (chunk_of (cut_in k.info)) k.info.parts
+  secondary_at k = secondary_bytes (model k.program) edges k.info.vertices k.info.parts k.options.mode k.options.iterations
 
   abbrev pub primary_in : Key G → ℕ → ℕ
-  primary_in k n = primary_taken k.options.mode edges (chunk_of (cut_in k.info)) k.info.parts n
+  primary_in k = primary_taken (model k.program) edges k.info.vertices k.info.parts k.options.mode k.options.iterations
 
   abbrev pub secondary_in : Key G → ℕ → ℕ
-  secondary_in k n = secondary_taken k.options.mode edges (chunk_of (cut_in k.info)) k.info.parts n
+  secondary_in k = secondary_taken (model k.program) edges k.info.vertices k.info.parts k.options.mode k.options.iterations
 
   -- An engine that goes on in a run: it stands, the lines of its iterations are written, and their blocks were taken.
   pub record IsRunning (k : Key G) (w : EngineState G V S) (told : FileKind → Option (List ℕ)) (written now : Option (List ℕ)) (before taken : FileKind → ℕ) : Type 0 where

@@ -3,7 +3,6 @@ use Rattle.std.proofs.Common.{◌≡◌, ◌≢◌, ℕ, ◌+◌, List, Option, 
 use Rattle.std.specs.Prelude.{sum_by}
 use Rattle.std.specs.List.{range_with_len}
 use Rattle.std.proofs.lemmas.List.Sums.{sum_by_push}
-use Rattle.lumos_base.specs.declared.records.Edge.{Edge}
 use Rattle.lumos_depot.specs.Files.{SameBut}
 use Rattle.lumos_depot.specs.declared.depot.FileKind.{FileKind}
 use Rattle.lumos_depot.specs.declared.depot.FileKind.TheVariants.{Primary, Secondary, Info}
@@ -11,7 +10,7 @@ use Rattle.partition.proofs.BucketLemmas.{range_more}
 use Rattle.lumos_report.specs.declared.records.Kind.{Kind}
 use Rattle.lumos_report.specs.declared.records.Kind.TheVariants.{Full, Fed}
 use Rattle.value_files.specs.Outside.{Reads, RoseBy}
-use Rattle.early_engine.specs.Passes.{bytes_of, file_of, passes, primary_bytes, secondary_bytes}
+use Rattle.early_engine.specs.Passes.{file_of, of_primary, of_secondary}
 use Rattle.early_engine.specs.Runs.{Streams}
 
 primary_apart : Primary ≢ Secondary
@@ -24,14 +23,14 @@ infos_apart : (kind : Kind) → Info ≢ file_of kind
 infos_apart Full e = let d : Info ≡ Primary = e in cc
 infos_apart Fed e = let d : Info ≡ Secondary = e in cc
 
--- an iteration takes its blocks' bytes of the file from which it reads, and none of the other
-pub primary_rose : (kind : Kind) (edges : List Edge) (c p : ℕ) (old new : FileKind → ℕ) → RoseBy (old (file_of kind)) (new (file_of kind)) (bytes_of edges c (passes kind p)) → SameBut (file_of kind) old new → RoseBy (old Primary) (new Primary) (primary_bytes kind edges c p)
-primary_rose Full edges c p old new rose same = rose
-primary_rose Fed edges c p old new rose same = λ low. let stays = same Primary primary_apart in omega (arith, stays)
+-- an iteration takes so many bytes of the file from which it reads, and none of the other
+pub primary_rose : (kind : Kind) (n : ℕ) (old new : FileKind → ℕ) → RoseBy (old (file_of kind)) (new (file_of kind)) n → SameBut (file_of kind) old new → RoseBy (old Primary) (new Primary) (of_primary kind n)
+primary_rose Full n old new rose same = rose
+primary_rose Fed n old new rose same = λ low. let stays = same Primary primary_apart in omega (arith, stays)
 
-pub secondary_rose : (kind : Kind) (edges : List Edge) (c p : ℕ) (old new : FileKind → ℕ) → RoseBy (old (file_of kind)) (new (file_of kind)) (bytes_of edges c (passes kind p)) → SameBut (file_of kind) old new → RoseBy (old Secondary) (new Secondary) (secondary_bytes kind edges c p)
-secondary_rose Full edges c p old new rose same = λ low. let stays = same Secondary secondary_apart in omega (arith, stays)
-secondary_rose Fed edges c p old new rose same = rose
+pub secondary_rose : (kind : Kind) (n : ℕ) (old new : FileKind → ℕ) → RoseBy (old (file_of kind)) (new (file_of kind)) n → SameBut (file_of kind) old new → RoseBy (old Secondary) (new Secondary) (of_secondary kind n)
+secondary_rose Full n old new rose same = λ low. let stays = same Secondary secondary_apart in omega (arith, stays)
+secondary_rose Fed n old new rose same = rose
 
 -- what the first n iterations take, where iteration t takes `f t`
 abbrev pub taken_by : (ℕ → ℕ) → ℕ → ℕ

@@ -7,15 +7,14 @@ use Rattle.lumos_base.specs.declared.records.Edge.{Edge}
 use Rattle.lumos_depot.specs.Streams.{AppendsFront, after_told}
 use Rattle.lumos_law.specs.Program.{Program}
 use Rattle.lumos_law.specs.Sync.{Ending as EndingOf, over_in, still_in, limit_at, ending, ending_by, ending_from, is_over, moved_count, values}
-use Rattle.partition.specs.Parts.{Cut, chunk_of}
+use Rattle.partition.specs.Parts.{Cut}
 use Rattle.io_account.specs.declared.Counts.{Counts}
 use Rattle.lumos_report.specs.Report.{counts_line}
 use Rattle.lumos_report.specs.declared.records.Kind.{Kind}
-use Rattle.lumos_report.specs.declared.records.Kind.TheVariants.{Full, Fed}
 use Rattle.lumos_report.specs.declared.records.Why.TheVariants.{Limit}
 use Rattle.value_files.specs.declared.fault.FileFault.TheVariants as file
 use Rattle.early_engine.specs.Making.{IsMade, IsUnmade}
-use Rattle.early_engine.specs.Passes.{Place, kind_of, passes, tally_of}
+use Rattle.early_engine.specs.Passes.{kind_of}
 use Rattle.early_engine.specs.Report.{closing_line, end_line, finished, shown_lines, turn_line, turn_of, turn_text}
 use Rattle.early_engine.specs.Turns.{fault_of, HasTurned, TurnComes, TurnTells}
 use Rattle.early_engine.specs.declared.iteration.Stop.{Stop}
@@ -102,11 +101,6 @@ module _ {V S : Type 0} (p : Program V S) (edges : List Edge) (n : ℕ) where
   closing_next left t =
       closing_by t (suc t) (moved_count p edges n t) (over_at t) (ending_from p edges n left (suc t)) (omega arith) (closing_below left (suc t) t (omega arith))
 
--- the values that moved are counted in both kinds
-tally_moved : (kind : Kind) (edges : List Edge) (c : ℕ) (bs : List Place) (moved : ℕ) → (tally_of kind edges c bs moved).moved ≡ moved
-tally_moved Full edges c bs moved = refl
-tally_moved Fed edges c bs moved = refl
-
 -- a turn that goes on isn't the last
 pub going_on : (iteration limit moved : ℕ) (turn : Turn) → turn ≡ turn_of iteration limit moved → turn ≡ Going → iteration ≡ limit → ⊥
 going_on iteration limit zero turn is going same = let e : Going ≡ turn_of iteration limit zero = sym going ∙ is in cc
@@ -150,46 +144,44 @@ module _ {V S : Type 0} (p : Program V S) (show : Show) (mode : Mode) (edges : L
       ((still, refl), sym line)
   closes (suc k) none moved = closes_on k none moved (cases_eq (suc t) limit)
 
-  moved_is : (counts : Counts) (items : List V) (sums : List S) → IsMade p edges cut mode limit t items sums counts → counts.moved ≡ moved_count p edges n t
-  moved_is counts items sums made =
-      let kind = kind_of mode (suc t) in
-      ap (λ (k : Counts). k.moved) made.counted ∙ tally_moved kind edges (chunk_of cut) (passes kind cut.parts) (moved_count p edges n t)
+  moved_is : (counts : Counts) (items : List V) (sums : List S) (flags : List Bool) → IsMade p edges cut mode limit t items sums flags counts → counts.moved ≡ moved_count p edges n t
+  moved_is counts items sums flags made = ap (λ (k : Counts). k.moved) made.counted
 
   -- the text that was written is that of the iteration
-  text_is : (iteration long : ℕ) (kind : Kind) (counts : Counts) (items : List V) (sums : List S) → iteration ≡ t + 1 → long ≡ n → kind ≡ kind_of mode iteration → IsMade p edges cut mode limit t items sums counts
+  text_is : (iteration long : ℕ) (kind : Kind) (counts : Counts) (items : List V) (sums : List S) (flags : List Bool) → iteration ≡ t + 1 → long ≡ n → kind ≡ kind_of mode iteration → IsMade p edges cut mode limit t items sums flags counts
       → (counts_line iteration kind counts ++ shown_lines p show (values p edges (suc t)) long) ++ turn_line (turn_of iteration limit counts.moved) ≡ turn_text p show mode edges n cut.parts limit t
-  text_is iteration long kind counts items sums at all is_kind made =
+  text_is iteration long kind counts items sums flags at all is_kind made =
       let here : iteration ≡ suc t = omega arith in
       let sort = is_kind ∙ ap (kind_of mode) here in
-      let moved = moved_is counts items sums made in
+      let moved = moved_is counts items sums flags made in
       let line = ap (λ (k : ℕ). turn_line (turn_of k limit counts.moved)) here ∙ (closes counts.moved made.none moved).1 in
       let counted = made.counted in
       ap (λ l. (counts_line iteration kind counts ++ shown_lines p show (values p edges (suc t)) long) ++ l) line
       ∙ (λ i. (counts_line (here i) (sort i) (counted i) ++ shown_lines p show (values p edges (suc t)) (all i)) ++ closing_line (suc t) end)
 
-  pub turned_ok : (iteration long : ℕ) (kind : Kind) (counts : Counts) (items : List V) (sums : List S) (old new : Option (List ℕ)) (turn : Turn) → iteration ≡ t + 1 → long ≡ n → kind ≡ kind_of mode iteration → IsMade p edges cut mode limit t items sums counts → turn ≡ turn_of iteration limit counts.moved
+  pub turned_ok : (iteration long : ℕ) (kind : Kind) (counts : Counts) (items : List V) (sums : List S) (flags : List Bool) (old new : Option (List ℕ)) (turn : Turn) → iteration ≡ t + 1 → long ≡ n → kind ≡ kind_of mode iteration → IsMade p edges cut mode limit t items sums flags counts → turn ≡ turn_of iteration limit counts.moved
       → new ≡ after_told old ((counts_line iteration kind counts ++ shown_lines p show (values p edges (suc t)) long) ++ turn_line (turn_of iteration limit counts.moved))
-      → HasTurned p show mode edges cut limit t items sums old new turn
-  turned_ok iteration long kind counts items sums old new turn at all is_kind made told written =
+      → HasTurned p show mode edges cut limit t items sums flags old new turn
+  turned_ok iteration long kind counts items sums flags old new turn at all is_kind made told written =
       let here : iteration ≡ suc t = omega arith in
       let same : turn_of (suc t) limit counts.moved ≡ turn = ap (λ (k : ℕ). turn_of k limit counts.moved) (sym here) ∙ sym told in
       record {
         kept = made.kept;
-        written = written ∙ ap (after_told old) (text_is iteration long kind counts items sums at all is_kind made);
-        tells = subst (TurnTells p show mode edges cut limit t) same (closes counts.moved made.none (moved_is counts items sums made)).0;
+        written = written ∙ ap (after_told old) (text_is iteration long kind counts items sums flags at all is_kind made);
+        tells = subst (TurnTells p show mode edges cut limit t) same (closes counts.moved made.none (moved_is counts items sums flags made)).0;
       }
 
-  pub turned_cut : (iteration long : ℕ) (kind : Kind) (counts : Counts) (items : List V) (sums : List S) (old new : Option (List ℕ)) → iteration ≡ t + 1 → long ≡ n → kind ≡ kind_of mode iteration → IsMade p edges cut mode limit t items sums counts
+  pub turned_cut : (iteration long : ℕ) (kind : Kind) (counts : Counts) (items : List V) (sums : List S) (flags : List Bool) (old new : Option (List ℕ)) → iteration ≡ t + 1 → long ≡ n → kind ≡ kind_of mode iteration → IsMade p edges cut mode limit t items sums flags counts
       → AppendsFront old new ((counts_line iteration kind counts ++ shown_lines p show (values p edges (suc t)) long) ++ turn_line (turn_of iteration limit counts.moved))
       → AppendsFront old new (turn_text p show mode edges n cut.parts limit t) × (suc t ≤ finished end)
-  turned_cut iteration long kind counts items sums old new at all is_kind made front = (
-    subst (AppendsFront old new) (text_is iteration long kind counts items sums at all is_kind made) front,
+  turned_cut iteration long kind counts items sums flags old new at all is_kind made front = (
+    subst (AppendsFront old new) (text_is iteration long kind counts items sums flags at all is_kind made) front,
     subst (λ e. suc t ≤ finished e) (sym next) (reaches_more p edges n (limit - suc t) t made.none),
   )
 
-  pub turned_stop : (iteration : ℕ) (why : Stop) (items : List V) (sums : List S) (old : Option (List ℕ)) → iteration ≡ t + 1 → IsUnmade p edges cut t why → TurnComes p show mode edges cut limit t items sums old old (Err (fault_of iteration why))
-  turned_stop iteration (stop.File file.Depot) items sums old at unmade = refl
-  turned_stop iteration (stop.File (file.Damaged kind place found)) items sums old at unmade = absurd unmade
-  turned_stop iteration (stop.Over vertex) items sums old at unmade =
+  pub turned_stop : (iteration : ℕ) (why : Stop) (items : List V) (sums : List S) (flags : List Bool) (old : Option (List ℕ)) → iteration ≡ t + 1 → IsUnmade p edges cut t why → TurnComes p show mode edges cut limit t items sums flags old old (Err (fault_of iteration why))
+  turned_stop iteration (stop.File file.Depot) items sums flags old at unmade = refl
+  turned_stop iteration (stop.File (file.Damaged kind place found)) items sums flags old at unmade = absurd unmade
+  turned_stop iteration (stop.Over vertex) items sums flags old at unmade =
       let here : suc t ≡ iteration = omega arith in
       (next ∙ ends_over p edges n (limit - suc t) t vertex.0 unmade ∙ ap (λ (k : ℕ). over_in k vertex.0) here, sym here, refl)

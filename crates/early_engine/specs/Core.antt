@@ -11,16 +11,8 @@ use Rattle.flight_core.specs.declared.event.Event.{Event}
 use Rattle.flight_core.specs.declared.event.Event.TheVariants.{Feed, Skip, Finalise}
 use Rattle.lumos_report.specs.declared.records.Kind.{Kind}
 use Rattle.early_engine.specs.Early.{early_sum}
-use Rattle.early_engine.specs.Passes.{feeds_ahead, kind_of, rows_of}
+use Rattle.early_engine.specs.Passes.{Hot, feeds_ahead, is_hot, kind_of, rows_of}
 use Rattle.early_engine.specs.declared.options.Mode.{Mode}
-
--- which chunks are taken as hot: whether chunk i is, in iteration t
-abbrev pub Hot : Type 0
-Hot = ℕ → ℕ → Bool
-
--- every chunk is
-abbrev pub always : Hot
-always t i = true
 
 -- the event of block (i,j) in iteration t: it is fed where its source chunk was hot in the iteration before, and skipped
 -- otherwise
@@ -72,7 +64,7 @@ chunk_in cut j items =
 -- What an engine keeps after iteration t is what the core keeps after the events of the first t iterations, which are
 -- legal: each chunk's final values, and the partial sums of each column in the next iteration, where it was fed ahead.
 pub record IsCoreState {V S : Type 0} (p : Program V S) (edges : List Edge) (cut : Cut) (mode : Mode) (limit t : ℕ) (items : List V) (sums : List S) : Type 0 where
-  pub legal : AreLegal p edges cut.vertices (chunk_of cut) cut.parts 1000000 (start p edges cut.vertices (chunk_of cut) cut.parts) (passes_to always mode limit cut.parts t)
-  pub finals : (j : ℕ) → j < cut.parts → kept_of (core_state p edges cut.vertices cut.parts always mode limit t).finals t j ≡ Some (chunk_in cut j items)
+  pub legal : AreLegal p edges cut.vertices (chunk_of cut) cut.parts 1000000 (start p edges cut.vertices (chunk_of cut) cut.parts) (passes_to (is_hot p edges cut.vertices cut.parts) mode limit cut.parts t)
+  pub finals : (j : ℕ) → j < cut.parts → kept_of (core_state p edges cut.vertices cut.parts (is_hot p edges cut.vertices cut.parts) mode limit t).finals t j ≡ Some (chunk_in cut j items)
   pub partial : feeds_ahead mode limit t ≡ true → (j : ℕ) → j < cut.parts
-      → sums_of p cut.vertices (chunk_of cut) (core_state p edges cut.vertices cut.parts always mode limit t) (suc t) j ≡ chunk_in cut j sums
+      → sums_of p cut.vertices (chunk_of cut) (core_state p edges cut.vertices cut.parts (is_hot p edges cut.vertices cut.parts) mode limit t) (suc t) j ≡ chunk_in cut j sums

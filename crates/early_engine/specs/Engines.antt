@@ -1,5 +1,5 @@
 -- An engine, and what it stands for.
-use Rattle.std.specs.Prelude.{◌≡◌, ◌≤◌, ◌<◌, ◌-◌, ℕ, List, sum, Option}
+use Rattle.std.specs.Prelude.{◌≡◌, ◌≤◌, ◌<◌, ◌-◌, ℕ, Bool, List, sum, Option}
 use Rattle.lumos_base.specs.declared.records.Edge.{Edge}
 use Rattle.lumos_depot.specs.declared.depot.FileKind.{FileKind}
 use Rattle.lumos_law.specs.Program.{Program}
@@ -15,8 +15,8 @@ use Rattle.early_engine.specs.declared.options.Phase.{Phase}
 use Rattle.early_engine.specs.declared.options.Phase.TheVariants.{Fresh, Going}
 use Rattle.early_engine.specs.declared.options.RunOptions.{RunOptions}
 
--- a program with its options over a grid with this head and table, the values and the early sums that are kept, how far it
--- is, and how many iterations were finished
+-- a program with its options over a grid with this head and table, the values, the early sums and the hot chunks that are
+-- kept, how far it is, and how many iterations were finished
 pub record EngineState (G V S : Type 0) : Type 0 where
   pub program : G
   pub options : RunOptions
@@ -24,6 +24,7 @@ pub record EngineState (G V S : Type 0) : Type 0 where
   pub table : BlockCounts
   pub values : List V
   pub early : List S
+  pub active : List Bool
   pub phase : Phase
   pub finished : ℕ
 
@@ -31,14 +32,15 @@ pub record EngineState (G V S : Type 0) : Type 0 where
 abbrev pub cut_in : GridInfo → Cut
 cut_in info = record { vertices = info.vertices; parts = info.parts }
 
--- The lists of an engine have the values of all vertices twice, the sums of a part, the early sums of all vertices, and the
--- edges of the longest block.
-pub record IsRoomy (cut : Cut) (table : BlockCounts) (before after sums early edges : ℕ) : Type 0 where
+-- The lists of an engine have the values of all vertices twice, the sums of a part, the early sums of all vertices, the edges
+-- of the longest block, and a flag for each part.
+pub record IsRoomy (cut : Cut) (table : BlockCounts) (before after sums early edges active : ℕ) : Type 0 where
   pub laid : IsLaid cut table edges
   pub before_fits : before ≡ cut.vertices
   pub after_fits : after ≡ cut.vertices
   pub sums_fit : sums ≡ chunk_of cut
   pub early_fits : early ≡ cut.vertices
+  pub active_fits : active ≡ cut.parts
 
 -- The iterations that are finished are fewer than those that are asked for as long as the run goes on, and none at first.
 pub record IsCounted (options : RunOptions) (phase : Phase) (finished : ℕ) : Type 0 where
@@ -48,11 +50,11 @@ pub record IsCounted (options : RunOptions) (phase : Phase) (finished : ℕ) : T
   pub none : phase ≡ Fresh → finished ≡ 0
 
 -- The parts of an engine fit one another.
-pub record IsEngine (info : GridInfo) (options : RunOptions) (cut : Cut) (table : BlockCounts) (before after sums early edges : ℕ) (phase : Phase) (finished : ℕ) : Type 0 where
+pub record IsEngine (info : GridInfo) (options : RunOptions) (cut : Cut) (table : BlockCounts) (before after sums early edges active : ℕ) (phase : Phase) (finished : ℕ) : Type 0 where
   pub head : IsHead info
   pub cut_fits : cut ≡ cut_in info
   pub whole : sum table.counts ≡ info.edges
-  pub roomy : IsRoomy cut table before after sums early edges
+  pub roomy : IsRoomy cut table before after sums early edges active
   pub counted : IsCounted options phase finished
 
 -- The run is the same: its program, its options and its grid.
@@ -69,10 +71,11 @@ pub record IsOpened {G V S : Type 0} (edges : List Edge) (told : FileKind → Op
   pub phase : engine.phase ≡ Fresh
 
 -- An engine stands for the grid of these edges, which a depot tells: it keeps the values of synchronous execution after the
--- iterations that are finished, and the early sums where the last of them fed ahead, and the run ends with none of them.
+-- iterations that are finished, the early sums where the last of them fed ahead, and which chunks are hot, and the run ends
+-- with none of them.
 pub record IsStanding {G V S : Type 0} (p : Program V S) (edges : List Edge) (told : FileKind → Option (List ℕ)) (engine : EngineState G V S) : Type 0 where
   pub grid : IsOnGrid edges (cut_in engine.info) engine.table told
-  pub kept : IsKept p edges (cut_in engine.info) engine.options.mode engine.options.iterations engine.finished engine.values engine.early
+  pub kept : IsKept p edges (cut_in engine.info) engine.options.mode engine.options.iterations engine.finished engine.values engine.early engine.active
   pub phase : engine.phase ≡ Going
   pub left : engine.finished < engine.options.iterations
   pub goes_on : ending p edges engine.info.vertices engine.options.iterations

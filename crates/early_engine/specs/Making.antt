@@ -1,24 +1,24 @@
 -- What an iteration makes of the values before it.
-use Rattle.std.specs.Prelude.{◌≡◌, ⊤, ℕ, suc, true, List, Some, None, find}
+use Rattle.std.specs.Prelude.{◌≡◌, ⊤, ℕ, suc, Bool, true, List, Some, None, find}
 use Rattle.std.specs.List.{range_with_len}
 use Rattle.lumos_base.specs.declared.records.Edge.{Edge}
 use Rattle.lumos_law.specs.Program.{Program}
 use Rattle.lumos_law.specs.Sync.{is_over, moved_count}
-use Rattle.partition.specs.Parts.{Cut, chunk_of}
+use Rattle.partition.specs.Parts.{Cut}
 use Rattle.grid_format.specs.Tables.{BlockCounts}
 use Rattle.io_account.specs.declared.Counts.{Counts}
 use Rattle.early_engine.specs.Early.{IsKept}
 use Rattle.early_engine.specs.Grids.{IsIntact, ShowsStray}
-use Rattle.early_engine.specs.Passes.{kind_of, passes, tally_of}
+use Rattle.early_engine.specs.Passes.{counts_in}
 use Rattle.early_engine.specs.declared.iteration.Stop.{Stop}
 use Rattle.early_engine.specs.declared.iteration.Stop.TheVariants.{File, Over}
 use Rattle.early_engine.specs.declared.options.Mode.{Mode}
 
 module _ {V S : Type 0} (p : Program V S) where
   -- Iteration t + 1 is made: what is kept after it, its counts, and no vertex is over in it.
-  pub record IsMade (edges : List Edge) (cut : Cut) (mode : Mode) (limit t : ℕ) (items : List V) (sums : List S) (counts : Counts) : Type 0 where
-    pub kept : IsKept p edges cut mode limit (suc t) items sums
-    pub counted : counts ≡ tally_of (kind_of mode (suc t)) edges (chunk_of cut) (passes (kind_of mode (suc t)) cut.parts) (moved_count p edges cut.vertices t)
+  pub record IsMade (edges : List Edge) (cut : Cut) (mode : Mode) (limit t : ℕ) (items : List V) (sums : List S) (flags : List Bool) (counts : Counts) : Type 0 where
+    pub kept : IsKept p edges cut mode limit (suc t) items sums flags
+    pub counted : counts ≡ counts_in p edges cut.vertices cut.parts mode limit (suc t) (moved_count p edges cut.vertices t)
     pub none : find (is_over p edges t) (range_with_len 0 cut.vertices) ≡ None
 
   -- Iteration t + 1 isn't made: its least vertex that is over was met, or the depot failed.

@@ -1,10 +1,14 @@
 -- Which iterations are full, which blocks an iteration goes through, which of them it reads, and what that counts for.
-use Rattle.std.specs.Prelude.{ℕ, ◌-◌, ◌*◌, ◌%◌, ◌==◌, ◌&&◌, nat_lt, Bool, false, cond, List, map, flat_map, filter, length, count_by, sum_by}
-use Rattle.std.specs.List.{range_with_len}
+use Rattle.std.specs.Prelude.{ℕ, ◌-◌, ◌*◌, ◌%◌, ◌==◌, ◌&&◌, ◌||◌, nat_lt, Bool, false, not, cond, List, map, flat_map, filter, length, count_by, sum_by}
+use Rattle.std.specs.List.{list_any, range_with_len}
 use Rattle.lumos_base.specs.declared.records.Edge.{Edge}
 use Rattle.lumos_depot.specs.declared.depot.FileKind.{FileKind}
 use Rattle.lumos_depot.specs.declared.depot.FileKind.TheVariants.{Primary, Secondary}
+use Rattle.lumos_law.specs.Program.{Program}
+use Rattle.lumos_law.specs.Sync.{values}
 use Rattle.partition.specs.Blocks.{block}
+use Rattle.partition.specs.Parts.{chunk_size, first_vertex, part_length}
+use Rattle.flight_core.specs.Events.{prior}
 use Rattle.io_account.specs.declared.Counts.{Counts}
 use Rattle.lumos_report.specs.declared.records.Kind.{Kind}
 use Rattle.lumos_report.specs.declared.records.Kind.TheVariants.{Full, Fed}
@@ -55,44 +59,72 @@ passes kind p = places_below kind p p
 abbrev pub size_at : List Edge → ℕ → Place → ℕ
 size_at edges c b = length (block edges c b.row b.column)
 
--- the blocks that it reads: each that has edges
-abbrev pub reads : List Edge → ℕ → List Place → List Place
-reads edges c bs = filter (λ b. nat_lt 0 (size_at edges c b)) bs
+-- the blocks that it reads: each that has edges and is needed
+abbrev pub reads : List Edge → ℕ → (Place → Bool) → List Place → List Place
+reads edges c need bs = filter (λ b. nat_lt 0 (size_at edges c b) && need b) bs
 
--- what it counts where so many values moved in it: the blocks that it read, and those without edges
-abbrev pub tally_of : Kind → List Edge → ℕ → List Place → ℕ → Counts
-tally_of Full edges c bs moved = record {
-  primary = length (reads edges c bs);
-  secondary = 0;
-  skipped = 0;
+-- how many bytes these take: twelve for each edge
+abbrev pub bytes_of : List Edge → ℕ → (Place → Bool) → List Place → ℕ
+bytes_of edges c need bs = sum_by (λ b. 12 * size_at edges c b) (reads edges c need bs)
+
+-- a number that counts for one layout alone: that from which iterations of a kind read
+abbrev pub of_primary : Kind → ℕ → ℕ
+of_primary Full k = k
+of_primary Fed k = 0
+
+abbrev pub of_secondary : Kind → ℕ → ℕ
+of_secondary Full k = 0
+of_secondary Fed k = k
+
+-- what it counts where so many values moved in it: the blocks that it read, those with edges that aren't needed, and those
+-- without edges
+abbrev pub tally_of : Kind → List Edge → ℕ → (Place → Bool) → List Place → ℕ → Counts
+tally_of kind edges c need bs moved = record {
+  primary = of_primary kind (length (reads edges c need bs));
+  secondary = of_secondary kind (length (reads edges c need bs));
+  skipped = count_by (λ b. nat_lt 0 (size_at edges c b) && not (need b)) bs;
   empty = count_by (λ b. size_at edges c b == 0) bs;
   moved = moved;
 }
-tally_of Fed edges c bs moved = record {
-  primary = 0;
-  secondary = length (reads edges c bs);
-  skipped = 0;
-  empty = count_by (λ b. size_at edges c b == 0) bs;
-  moved = moved;
-}
 
--- how many bytes blocks take: twelve for each edge of those that are read
-abbrev pub bytes_of : List Edge → ℕ → List Place → ℕ
-bytes_of edges c bs = sum_by (λ b. 12 * size_at edges c b) (reads edges c bs)
+-- which chunks are hot: whether chunk i is, in iteration t
+abbrev pub Hot : Type 0
+Hot = ℕ → ℕ → Bool
 
--- how many bytes an iteration takes of Primary: none in a fed one
-abbrev pub primary_bytes : Kind → List Edge → ℕ → ℕ → ℕ
-primary_bytes Full edges c p = bytes_of edges c (passes Full p)
-primary_bytes Fed edges c p = 0
+-- Iteration t needs a block where its source chunk was hot in the iteration before; or where it feeds ahead, the block lies
+-- above the diagonal, and its source chunk is hot in it.
+abbrev pub needed : Hot → Bool → ℕ → Place → Bool
+needed hot ahead t b = hot (prior t) b.row || (ahead && nat_lt b.row b.column && hot t b.row)
 
--- and of Secondary: none in a full one
-abbrev pub secondary_bytes : Kind → List Edge → ℕ → ℕ → ℕ
-secondary_bytes Full edges c p = 0
-secondary_bytes Fed edges c p = bytes_of edges c (passes Fed p)
+module _ {V S : Type 0} (p : Program V S) (edges : List Edge) (n parts : ℕ) where
+  -- a chunk is hot in iteration t where some vertex of it contributes
+  abbrev pub is_hot : Hot
+  is_hot t i =
+      list_any (λ v. p.contributes (values p edges t v)) (range_with_len (first_vertex n (chunk_size n parts) i) (part_length n (chunk_size n parts) i))
 
--- how many bytes the first n iterations take of the two
-abbrev pub primary_taken : Mode → List Edge → ℕ → ℕ → ℕ → ℕ
-primary_taken mode edges c p n = sum_by (λ t. primary_bytes (kind_of mode t) edges c p) (range_with_len 1 n)
+  module _ (mode : Mode) (limit : ℕ) where
+    -- the blocks that iteration t needs
+    abbrev pub needs : ℕ → Place → Bool
+    needs t = needed is_hot (feeds_ahead mode limit t) t
 
-abbrev pub secondary_taken : Mode → List Edge → ℕ → ℕ → ℕ → ℕ
-secondary_taken mode edges c p n = sum_by (λ t. secondary_bytes (kind_of mode t) edges c p) (range_with_len 1 n)
+    -- what iteration t counts where so many values moved in it
+    abbrev pub counts_in : ℕ → ℕ → Counts
+    counts_in t moved = tally_of (kind_of mode t) edges (chunk_size n parts) (needs t) (passes (kind_of mode t) parts) moved
+
+    -- how many bytes it takes
+    abbrev pub iteration_bytes : ℕ → ℕ
+    iteration_bytes t = bytes_of edges (chunk_size n parts) (needs t) (passes (kind_of mode t) parts)
+
+    -- how many of Primary: none in a fed iteration; and of Secondary: none in a full one
+    abbrev pub primary_bytes : ℕ → ℕ
+    primary_bytes t = of_primary (kind_of mode t) (iteration_bytes t)
+
+    abbrev pub secondary_bytes : ℕ → ℕ
+    secondary_bytes t = of_secondary (kind_of mode t) (iteration_bytes t)
+
+    -- how many bytes the first k iterations take of the two
+    abbrev pub primary_taken : ℕ → ℕ
+    primary_taken k = sum_by primary_bytes (range_with_len 1 k)
+
+    abbrev pub secondary_taken : ℕ → ℕ
+    secondary_taken k = sum_by secondary_bytes (range_with_len 1 k)

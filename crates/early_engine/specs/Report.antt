@@ -6,11 +6,10 @@ use Rattle.lumos_depot.specs.Streams.{AppendsFront, after_told}
 use Rattle.lumos_depot.specs.declared.stream.Failed.{Failed}
 use Rattle.lumos_law.specs.Program.{Program}
 use Rattle.lumos_law.specs.Sync.{Ending as EndingOf, over_in, still_in, limit_at, ending, moved_count, values}
-use Rattle.partition.specs.Parts.{chunk_size}
 use Rattle.grid_format.specs.Grid.{grid_head}
 use Rattle.lumos_report.specs.Report.{counts_line, ending_line, head_line, value_line, zero_line}
 use Rattle.lumos_report.specs.declared.records.Why.TheVariants.{Still, Limit}
-use Rattle.early_engine.specs.Passes.{kind_of, passes, tally_of}
+use Rattle.early_engine.specs.Passes.{counts_in, kind_of}
 use Rattle.early_engine.specs.declared.options.Mode.{Mode}
 use Rattle.early_engine.specs.declared.options.Show.{Show}
 use Rattle.early_engine.specs.declared.options.Show.TheVariants.{All, Brief}
@@ -44,21 +43,21 @@ module _ {V S : Type 0} (p : Program V S) where
   first_lines name show edges n parts =
       head_line name (grid_head edges n parts) ++ (zero_line ++ shown_lines show (values p edges 0) n)
 
-  -- the lines of iteration t + 1: its blocks, how many values moved, and the values
-  abbrev pub turn_lines : Show → Mode → List Edge → ℕ → ℕ → ℕ → List ℕ
-  turn_lines show mode edges n parts t =
-      let kind = kind_of mode (suc t) in
-      counts_line (suc t) kind (tally_of kind edges (chunk_size n parts) (passes kind parts) (moved_count p edges n t)) ++ shown_lines show (values p edges (suc t)) n
+  -- the lines of iteration t + 1 in a run of at most `limit` iterations: its blocks, how many values moved, and the values
+  abbrev pub turn_lines : Show → Mode → List Edge → ℕ → ℕ → ℕ → ℕ → List ℕ
+  turn_lines show mode edges n parts limit t =
+      counts_line (suc t) (kind_of mode (suc t)) (counts_in p edges n parts mode limit (suc t) (moved_count p edges n t))
+      ++ shown_lines show (values p edges (suc t)) n
 
   -- what iteration t + 1 writes in a run of at most `limit` iterations: its lines, and the last line where the run ends with it
   abbrev pub turn_text : Show → Mode → List Edge → ℕ → ℕ → ℕ → ℕ → List ℕ
   turn_text show mode edges n parts limit t =
-      turn_lines show mode edges n parts t ++ closing_line (suc t) (ending p edges n limit)
+      turn_lines show mode edges n parts limit t ++ closing_line (suc t) (ending p edges n limit)
 
   -- the lines from the first iteration on: those of each finished iteration, and how the run ended
   abbrev pub later_lines : Show → Mode → List Edge → ℕ → ℕ → ℕ → List ℕ
   later_lines show mode edges n parts limit =
-      let end = ending p edges n limit in flat_map (turn_lines show mode edges n parts) (range_with_len 0 (finished end)) ++ end_line end
+      let end = ending p edges n limit in flat_map (turn_lines show mode edges n parts limit) (range_with_len 0 (finished end)) ++ end_line end
 
   -- The report on edges between n vertices that are cut into `parts` parts, of at most `limit` iterations: the head, the
   -- values at first, the lines of each finished iteration, and how the run ended.

@@ -1,5 +1,5 @@
 -- What comes of an iteration.
-use Rattle.std.specs.Prelude.{◌≡◌, ◌≤◌, ◌<◌, ◌-◌, ⊤, ℕ, suc, List, Option, Result, Ok, Err}
+use Rattle.std.specs.Prelude.{◌≡◌, ◌≤◌, ◌<◌, ◌-◌, ⊤, ℕ, suc, Bool, List, Option, Result, Ok, Err}
 use Rattle.lumos_base.specs.declared.records.Edge.{Edge}
 use Rattle.lumos_depot.specs.Streams.{AppendsFront, after_told}
 use Rattle.lumos_law.specs.Program.{Program}
@@ -73,16 +73,16 @@ module _ {V S : Type 0} (p : Program V S) (show : Show) (mode : Mode) (edges : L
   TurnTells (Ended end) = (run_end ≡ ending_told end) × (end.iterations ≡ suc t)
 
   -- Iteration t + 1 was made and reported.
-  pub record HasTurned (items : List V) (sums : List S) (old new : Option (List ℕ)) (turn : Turn) : Type 0 where
-    pub kept : IsKept p edges cut mode limit (suc t) items sums
+  pub record HasTurned (items : List V) (sums : List S) (flags : List Bool) (old new : Option (List ℕ)) (turn : Turn) : Type 0 where
+    pub kept : IsKept p edges cut mode limit (suc t) items sums flags
     pub written : new ≡ after_told old (turn_text p show mode edges cut.vertices cut.parts limit t)
     pub tells : TurnTells turn
 
   -- What comes of iteration t + 1: it is made and reported; or a vertex is over in it, as the run ends, and nothing was
   -- reported; or the outside failed, and a front of its text was written.
-  abbrev pub TurnComes : List V → List S → Option (List ℕ) → Option (List ℕ) → Result Turn RunFault → Type 0
-  TurnComes items sums old new (Ok turn) = HasTurned items sums old new turn
-  TurnComes items sums old new (Err (Range iteration vertex)) = (run_end ≡ over_in iteration vertex) × (iteration ≡ suc t) × (new ≡ old)
-  TurnComes items sums old new (Err Out) = AppendsFront old new (turn_text p show mode edges cut.vertices cut.parts limit t) × (suc t ≤ finished run_end)
-  TurnComes items sums old new (Err Depot) = new ≡ old
-  TurnComes items sums old new (Err (Damaged kind place found)) = ⊥
+  abbrev pub TurnComes : List V → List S → List Bool → Option (List ℕ) → Option (List ℕ) → Result Turn RunFault → Type 0
+  TurnComes items sums flags old new (Ok turn) = HasTurned items sums flags old new turn
+  TurnComes items sums flags old new (Err (Range iteration vertex)) = (run_end ≡ over_in iteration vertex) × (iteration ≡ suc t) × (new ≡ old)
+  TurnComes items sums flags old new (Err Out) = AppendsFront old new (turn_text p show mode edges cut.vertices cut.parts limit t) × (suc t ≤ finished run_end)
+  TurnComes items sums flags old new (Err Depot) = new ≡ old
+  TurnComes items sums flags old new (Err (Damaged kind place found)) = ⊥

@@ -1,10 +1,13 @@
-// The values at first, from what leads out of each vertex.
-ghost use Rattle.std.specs.Prelude.{◌≡◌, ◌≤◌, ◌+◌, ◌*◌, ◌-◌, ◌++◌, ℕ, List, Some, Err, drop, length, IfErr, IfSome, IsSome, OnErr, OnOk};
+// The values at first, from what leads out of each vertex, and which parts are hot by them.
+ghost use Rattle.std.specs.Prelude.{◌≡◌, ◌≤◌, ◌<◌, ◌+◌, ◌*◌, ◌-◌, ℕ, List, Some, Err, drop, length, IfErr, IfSome, IsSome, OnErr, OnOk};
+ghost use Rattle.std.specs.List.{list_any, range_with_len};
+ghost use Rattle.active_sets.specs.Active.{hot_at};
 ghost use Rattle.lumos_base.specs.Records.{info_from};
 ghost use Rattle.lumos_base.specs.declared.records.Edge.{Edge};
 ghost use Rattle.lumos_depot.specs.Causes.{Rose};
 ghost use Rattle.lumos_depot.specs.declared.depot.FileKind.{FileKind};
 ghost use Rattle.lumos_law.specs.Sync.{values, IsChunk};
+ghost use Rattle.partition.specs.Parts.{chunk_of, first_vertex, part_length};
 ghost use Rattle.value_files.specs.Outside.{Reads, RoseBy};
 ghost use Rattle.grid_format.specs.Tables.{BlockCounts};
 ghost use Rattle.early_engine.specs.Engines.{cut_in};
@@ -14,10 +17,12 @@ ghost use Rattle.grid_format.specs.Grid.{grid_head};
 
 use crate::options::{RunFault, Show};
 use crate::write::write_first;
+use active_sets::ActiveParts;
 use grid_format::GridInfo;
 use lumos_base::{Fixed, OutInfo, Vertex};
 use lumos_depot::{Depot, Failed, FileKind, Sink};
 use lumos_law::VertexProgram;
+use partition::Parts;
 
 // How many records are read at a time.
 const PIECE: usize = 256;
@@ -103,4 +108,39 @@ pub(crate) fn make_start<G: VertexProgram, D: Depot, O: Sink>(
         },
         Err(_) => Err(RunFault::Depot),
     }
+}
+
+// Whether some value contributes.
+fn some_contributes<G: VertexProgram>(program: &G, values: &[G::Value]) -> bool
+    ensures { (state : ℕ → G.Value) (first : ℕ) → IsChunk state first values.now
+        → result ≡ list_any (λ v. (G.model program.now).contributes (state v)) (range_with_len first (length values.now)) }
+{
+    for i in 0..values.len() {
+        if program.contributes(&values[i]) {
+            return true;
+        }
+    }
+    false
+}
+
+// Sets which parts are hot before the first iteration: those with a value at first that contributes.
+pub(crate) fn mark_first<G: VertexProgram>(
+    program: &G,
+    parts: Parts,
+    values: &[G::Value],
+    active: &mut ActiveParts,
+)
+    requires parts { active.old.parts ≡ parts.parts }
+    requires fits { length values.now ≡ parts.vertices }
+    ensures parts { active.new.parts ≡ parts.parts }
+    ensures hot { (state : ℕ → G.Value) → IsChunk state 0 values.now → (i : ℕ) → i < parts.parts
+        → hot_at active.new.was_hot i ≡ list_any (λ v. (G.model program.now).contributes (state v))
+        (range_with_len (first_vertex parts.vertices (chunk_of parts) i) (part_length parts.vertices (chunk_of parts) i)) }
+{
+    for i in 0..parts.parts() {
+        let range = parts.range_of(i);
+        let part = &values[range.first as usize..range.past as usize];
+        active.mark(i, some_contributes(program, part));
+    }
+    active.turn();
 }

@@ -1,19 +1,19 @@
 // The blocks of a column, one after another.
-ghost use Rattle.std.specs.Prelude.{◌≡◌, ◌≤◌, ◌<◌, ◌+◌, ◌*◌, ◌++◌, ◌∷◌, [], ℕ, true, min, List, Err, length, take, IfErr, IsSome, OnOk};
+ghost use Rattle.std.specs.Prelude.{◌≡◌, ◌≤◌, ◌<◌, ◌+◌, ◌++◌, ◌∷◌, [], ℕ, suc, false, true, min, List, Err, length, IfErr, IsSome, OnOk};
 ghost use Rattle.lumos_base.specs.declared.records.Edge.{Edge};
-ghost use Rattle.lumos_law.specs.Sync.{IsChunk};
+ghost use Rattle.lumos_law.specs.Sync.{values, IsChunk};
 ghost use Rattle.lumos_depot.specs.Causes.{Rose};
 ghost use Rattle.lumos_depot.specs.declared.depot.FileKind.{FileKind};
 ghost use Rattle.lumos_report.specs.declared.records.Kind.{Kind};
-ghost use Rattle.partition.specs.Blocks.{block};
-ghost use Rattle.partition.specs.Parts.{chunk_of, first_vertex, part_length};
+ghost use Rattle.partition.specs.Parts.{chunk_of, part_length};
 ghost use Rattle.value_files.specs.Outside.{Reads, RoseBy};
 ghost use Rattle.early_engine.specs.Grids.{HasBlocks, IsIntact, IsLaid, IsOnGrid, ShowsStray};
 ghost use Rattle.early_engine.specs.Passes.{Place, bytes_of, place_at, places, tally_of};
-ghost use Rattle.early_engine.specs.Steps.{IsFedTo, blocks_in};
+ghost use Rattle.early_engine.specs.Steps.{AreHot, IsFedTo, IsReady, blocks_in, needs_by};
 
 use crate::feed::{clear_early, clear_sums, feed_ahead, feed_block};
 use crate::layout::Layout;
+use active_sets::ActiveParts;
 use io_account::Counts;
 use lumos_base::Edge;
 use lumos_depot::{Depot, FileKind};
@@ -21,11 +21,12 @@ use lumos_law::VertexProgram;
 use lumos_report::Kind;
 use value_files::FileFault;
 
-// What a full iteration does with a block: it feeds its edges, ahead too where it does so.
+// What a full iteration does with a block: it reads it where it is needed, and feeds its edges, ahead too where it does so.
 fn feed_both<G: VertexProgram, D: Depot>(
     program: &G,
     layout: &Layout,
     ahead: bool,
+    active: &ActiveParts,
     depot: &mut D,
     i: u32,
     j: u32,
@@ -41,6 +42,7 @@ fn feed_both<G: VertexProgram, D: Depot>(
     requires column { j < layout.now.parts.parts }
     requires laid { IsLaid layout.now.parts layout.now.table (length room.old) }
     requires inside { HasBlocks layout.now.table (D.holds depot.old) }
+    requires active_fits { active.now.parts ≡ layout.now.parts.parts }
     requires before_fits { length before.now ≡ layout.now.parts.vertices }
     requires after_fits { length after.now ≡ layout.now.parts.vertices }
     requires sums_fit { length sums.old ≡ part_length layout.now.parts.vertices (chunk_of layout.now.parts) j }
@@ -48,29 +50,36 @@ fn feed_both<G: VertexProgram, D: Depot>(
     requires few { blocks_in counts.old ≤ 65536 }
     ensures few { blocks_in counts.new ≤ blocks_in counts.old + 1 }
     ensures moved { counts.new.moved ≡ counts.old.moved }
-    ensures fed { (edges : List Edge) (state : ℕ → G.Value) → IsOnGrid edges layout.now.parts layout.now.table (D.holds depot.old)
-        → IsChunk state 0 before.now → IsFedTo (G.model program.now) edges layout.now.parts j i state sums.old
-        → OnOk result (IsFedTo (G.model program.now) edges layout.now.parts j (i + 1) state sums.new) }
-    ensures ahead { (edges : List Edge) (next : ℕ → G.Value) → IsOnGrid edges layout.now.parts layout.now.table (D.holds depot.old)
-        → ahead ≡ true → IsChunk next 0 (take (first_vertex layout.now.parts.vertices (chunk_of layout.now.parts) j) after.now)
-        → IsFedTo (G.model program.now) edges layout.now.parts j (min i j) next early.old
-        → OnOk result (IsFedTo (G.model program.now) edges layout.now.parts j (min (i + 1) j) next early.new) }
-    ensures counted { (edges : List Edge) (bs : List Place) (moved : ℕ)
-        → IsOnGrid edges layout.now.parts layout.now.table (D.holds depot.old)
-        → counts.old ≡ tally_of Kind.Full edges (chunk_of layout.now.parts) bs moved
-        → OnOk result (counts.new ≡ tally_of Kind.Full edges (chunk_of layout.now.parts) (bs ++ place_at i j ∷ []) moved) }
-    ensures taken { (edges : List Edge) → IsOnGrid edges layout.now.parts layout.now.table (D.holds depot.old)
+    ensures fed { (edges : List Edge) (t : ℕ) → IsOnGrid edges layout.now.parts layout.now.table (D.holds depot.old)
+        → IsReady (G.model program.now) edges layout.now.parts j t before.now after.now active.now.was_hot active.now.is_hot
+        → IsFedTo (G.model program.now) edges layout.now.parts j i (values (G.model program.now) edges t) sums.old
+        → OnOk result (IsFedTo (G.model program.now) edges layout.now.parts j (i + 1) (values (G.model program.now) edges t) sums.new) }
+    ensures ahead { (edges : List Edge) (t : ℕ) → IsOnGrid edges layout.now.parts layout.now.table (D.holds depot.old)
+        → IsReady (G.model program.now) edges layout.now.parts j t before.now after.now active.now.was_hot active.now.is_hot → ahead ≡ true
+        → IsFedTo (G.model program.now) edges layout.now.parts j (min i j) (values (G.model program.now) edges (suc t)) early.old
+        → OnOk result (IsFedTo (G.model program.now) edges layout.now.parts j (min (i + 1) j) (values (G.model program.now) edges (suc t)) early.new) }
+    ensures counted { (edges : List Edge) (t : ℕ) (bs : List Place) (moved : ℕ) → IsOnGrid edges layout.now.parts layout.now.table (D.holds depot.old)
+        → IsReady (G.model program.now) edges layout.now.parts j t before.now after.now active.now.was_hot active.now.is_hot
+        → counts.old ≡ tally_of Kind.Full edges (chunk_of layout.now.parts) (needs_by (G.model program.now) edges layout.now.parts ahead t) bs moved
+        → OnOk result (counts.new ≡ tally_of Kind.Full edges (chunk_of layout.now.parts) (needs_by (G.model program.now) edges layout.now.parts ahead t) (bs ++ place_at i j ∷ []) moved) }
+    ensures taken { (edges : List Edge) (t : ℕ) → IsOnGrid edges layout.now.parts layout.now.table (D.holds depot.old)
+        → IsReady (G.model program.now) edges layout.now.parts j t before.now after.now active.now.was_hot active.now.is_hot
         → OnOk result (RoseBy (D.taken depot.old FileKind.Primary) (D.taken depot.new FileKind.Primary)
-        (12 * length (block edges (chunk_of layout.now.parts) i j))) }
+        (bytes_of edges (chunk_of layout.now.parts) (needs_by (G.model program.now) edges layout.now.parts ahead t) (place_at i j ∷ []))) }
     ensures intact { (edges : List Edge) → IsOnGrid edges layout.now.parts layout.now.table (D.holds depot.old) → IfErr result IsIntact }
     ensures damaged { IfErr result (ShowsStray layout.now.parts layout.now.table) }
     ensures reads { Reads D.holds D.taken D.stored D.faults D.attached FileKind.Primary depot.old depot.new }
     ensures cause { result ≡ Err FileFault.Depot → Rose (D.faults depot.old) (D.faults depot.new) }
 {
+    let needed = active.needed_full(i, j, ahead);
+    let was_hot = active.hot_before(i);
+    let is_hot = active.hot_now(i);
     match feed_block(
         program,
         layout,
         Kind::Full,
+        needed,
+        was_hot,
         depot,
         i,
         j,
@@ -80,7 +89,8 @@ fn feed_both<G: VertexProgram, D: Depot>(
         counts,
     ) {
         Ok(count) => {
-            feed_ahead(program, layout, ahead, i, j, &room[..count], after, early);
+            let edges = &room[..count];
+            feed_ahead(program, layout, ahead, is_hot, i, j, edges, after, early);
             Ok(())
         }
         Err(fault) => Err(fault),
@@ -88,11 +98,13 @@ fn feed_both<G: VertexProgram, D: Depot>(
 }
 
 // In a full iteration, sets the sums of part j to what the blocks of its column give, and its early sums to what those
-// above the diagonal give the next iteration, where this one feeds ahead. It counts the blocks of the column.
+// above the diagonal give the next iteration, where this one feeds ahead. It reads the blocks that are needed, and counts
+// the blocks of the column.
 pub(crate) fn feed_full<G: VertexProgram, D: Depot>(
     program: &G,
     layout: &Layout,
     ahead: bool,
+    active: &ActiveParts,
     depot: &mut D,
     j: u32,
     room: &mut [Edge],
@@ -106,6 +118,7 @@ pub(crate) fn feed_full<G: VertexProgram, D: Depot>(
     requires column { j < layout.now.parts.parts }
     requires laid { IsLaid layout.now.parts layout.now.table (length room.old) }
     requires inside { HasBlocks layout.now.table (D.holds depot.old) }
+    requires active_fits { active.now.parts ≡ layout.now.parts.parts }
     requires before_fits { length before.now ≡ layout.now.parts.vertices }
     requires after_fits { length after.now ≡ layout.now.parts.vertices }
     requires sums_fit { length sums.old ≡ part_length layout.now.parts.vertices (chunk_of layout.now.parts) j }
@@ -113,19 +126,20 @@ pub(crate) fn feed_full<G: VertexProgram, D: Depot>(
     requires few { blocks_in counts.old ≤ 65280 }
     ensures few { blocks_in counts.new ≤ blocks_in counts.old + 256 }
     ensures moved { counts.new.moved ≡ counts.old.moved }
-    ensures fed { (edges : List Edge) (state : ℕ → G.Value) → IsOnGrid edges layout.now.parts layout.now.table (D.holds depot.old)
-        → IsChunk state 0 before.now
-        → OnOk result (IsFedTo (G.model program.now) edges layout.now.parts j layout.now.parts.parts state sums.new) }
-    ensures ahead { (edges : List Edge) (next : ℕ → G.Value) → IsOnGrid edges layout.now.parts layout.now.table (D.holds depot.old)
-        → ahead ≡ true → IsChunk next 0 (take (first_vertex layout.now.parts.vertices (chunk_of layout.now.parts) j) after.now)
-        → OnOk result (IsFedTo (G.model program.now) edges layout.now.parts j j next early.new) }
-    ensures counted { (edges : List Edge) (bs : List Place) (moved : ℕ)
-        → IsOnGrid edges layout.now.parts layout.now.table (D.holds depot.old)
-        → counts.old ≡ tally_of Kind.Full edges (chunk_of layout.now.parts) bs moved
-        → OnOk result (counts.new ≡ tally_of Kind.Full edges (chunk_of layout.now.parts) (bs ++ places Kind.Full layout.now.parts.parts j) moved) }
-    ensures taken { (edges : List Edge) → IsOnGrid edges layout.now.parts layout.now.table (D.holds depot.old)
+    ensures fed { (edges : List Edge) (t : ℕ) → IsOnGrid edges layout.now.parts layout.now.table (D.holds depot.old)
+        → IsReady (G.model program.now) edges layout.now.parts j t before.now after.now active.now.was_hot active.now.is_hot
+        → OnOk result (IsFedTo (G.model program.now) edges layout.now.parts j layout.now.parts.parts (values (G.model program.now) edges t) sums.new) }
+    ensures ahead { (edges : List Edge) (t : ℕ) → IsOnGrid edges layout.now.parts layout.now.table (D.holds depot.old)
+        → IsReady (G.model program.now) edges layout.now.parts j t before.now after.now active.now.was_hot active.now.is_hot → ahead ≡ true
+        → OnOk result (IsFedTo (G.model program.now) edges layout.now.parts j j (values (G.model program.now) edges (suc t)) early.new) }
+    ensures counted { (edges : List Edge) (t : ℕ) (bs : List Place) (moved : ℕ) → IsOnGrid edges layout.now.parts layout.now.table (D.holds depot.old)
+        → IsReady (G.model program.now) edges layout.now.parts j t before.now after.now active.now.was_hot active.now.is_hot
+        → counts.old ≡ tally_of Kind.Full edges (chunk_of layout.now.parts) (needs_by (G.model program.now) edges layout.now.parts ahead t) bs moved
+        → OnOk result (counts.new ≡ tally_of Kind.Full edges (chunk_of layout.now.parts) (needs_by (G.model program.now) edges layout.now.parts ahead t) (bs ++ places Kind.Full layout.now.parts.parts j) moved) }
+    ensures taken { (edges : List Edge) (t : ℕ) → IsOnGrid edges layout.now.parts layout.now.table (D.holds depot.old)
+        → IsReady (G.model program.now) edges layout.now.parts j t before.now after.now active.now.was_hot active.now.is_hot
         → OnOk result (RoseBy (D.taken depot.old FileKind.Primary) (D.taken depot.new FileKind.Primary)
-        (bytes_of edges (chunk_of layout.now.parts) (places Kind.Full layout.now.parts.parts j))) }
+        (bytes_of edges (chunk_of layout.now.parts) (needs_by (G.model program.now) edges layout.now.parts ahead t) (places Kind.Full layout.now.parts.parts j))) }
     ensures intact { (edges : List Edge) → IsOnGrid edges layout.now.parts layout.now.table (D.holds depot.old) → IfErr result IsIntact }
     ensures damaged { IfErr result (ShowsStray layout.now.parts layout.now.table) }
     ensures reads { Reads D.holds D.taken D.stored D.faults D.attached FileKind.Primary depot.old depot.new }
@@ -135,7 +149,7 @@ pub(crate) fn feed_full<G: VertexProgram, D: Depot>(
     clear_early(ahead, early);
     for i in 0..layout.parts.parts() {
         match feed_both(
-            program, layout, ahead, depot, i, j, room, before, after, sums, early, counts,
+            program, layout, ahead, active, depot, i, j, room, before, after, sums, early, counts,
         ) {
             Ok(()) => {}
             Err(fault) => return Err(fault),
@@ -145,10 +159,11 @@ pub(crate) fn feed_full<G: VertexProgram, D: Depot>(
 }
 
 // In a fed iteration, goes on with the early sums of part j, which have what the blocks above the diagonal give: joins
-// what the other blocks of its column give, and counts these blocks.
+// what the other blocks of its column give, of which it reads those whose source part was hot, and counts these blocks.
 pub(crate) fn feed_rest<G: VertexProgram, D: Depot>(
     program: &G,
     layout: &Layout,
+    active: &ActiveParts,
     depot: &mut D,
     j: u32,
     room: &mut [Edge],
@@ -160,31 +175,37 @@ pub(crate) fn feed_rest<G: VertexProgram, D: Depot>(
     requires column { j < layout.now.parts.parts }
     requires laid { IsLaid layout.now.parts layout.now.table (length room.old) }
     requires inside { HasBlocks layout.now.table (D.holds depot.old) }
+    requires active_fits { active.now.parts ≡ layout.now.parts.parts }
     requires values_fit { length before.now ≡ layout.now.parts.vertices }
     requires sums_fit { length sums.old ≡ part_length layout.now.parts.vertices (chunk_of layout.now.parts) j }
     requires few { blocks_in counts.old ≤ 65280 }
     ensures few { blocks_in counts.new ≤ blocks_in counts.old + 256 }
     ensures moved { counts.new.moved ≡ counts.old.moved }
-    ensures fed { (edges : List Edge) (state : ℕ → G.Value) → IsOnGrid edges layout.now.parts layout.now.table (D.holds depot.old)
-        → IsChunk state 0 before.now → IsFedTo (G.model program.now) edges layout.now.parts j j state sums.old
-        → OnOk result (IsFedTo (G.model program.now) edges layout.now.parts j layout.now.parts.parts state sums.new) }
-    ensures counted { (edges : List Edge) (bs : List Place) (moved : ℕ)
-        → IsOnGrid edges layout.now.parts layout.now.table (D.holds depot.old)
-        → counts.old ≡ tally_of Kind.Fed edges (chunk_of layout.now.parts) bs moved
-        → OnOk result (counts.new ≡ tally_of Kind.Fed edges (chunk_of layout.now.parts) (bs ++ places Kind.Fed layout.now.parts.parts j) moved) }
-    ensures taken { (edges : List Edge) → IsOnGrid edges layout.now.parts layout.now.table (D.holds depot.old)
+    ensures fed { (edges : List Edge) (t : ℕ) → IsOnGrid edges layout.now.parts layout.now.table (D.holds depot.old)
+        → IsChunk (values (G.model program.now) edges t) 0 before.now → AreHot (G.model program.now) edges layout.now.parts layout.now.parts.parts t active.now.was_hot
+        → IsFedTo (G.model program.now) edges layout.now.parts j j (values (G.model program.now) edges t) sums.old
+        → OnOk result (IsFedTo (G.model program.now) edges layout.now.parts j layout.now.parts.parts (values (G.model program.now) edges t) sums.new) }
+    ensures counted { (edges : List Edge) (t : ℕ) (bs : List Place) (moved : ℕ) → IsOnGrid edges layout.now.parts layout.now.table (D.holds depot.old)
+        → AreHot (G.model program.now) edges layout.now.parts layout.now.parts.parts t active.now.was_hot
+        → counts.old ≡ tally_of Kind.Fed edges (chunk_of layout.now.parts) (needs_by (G.model program.now) edges layout.now.parts false t) bs moved
+        → OnOk result (counts.new ≡ tally_of Kind.Fed edges (chunk_of layout.now.parts) (needs_by (G.model program.now) edges layout.now.parts false t) (bs ++ places Kind.Fed layout.now.parts.parts j) moved) }
+    ensures taken { (edges : List Edge) (t : ℕ) → IsOnGrid edges layout.now.parts layout.now.table (D.holds depot.old)
+        → AreHot (G.model program.now) edges layout.now.parts layout.now.parts.parts t active.now.was_hot
         → OnOk result (RoseBy (D.taken depot.old FileKind.Secondary) (D.taken depot.new FileKind.Secondary)
-        (bytes_of edges (chunk_of layout.now.parts) (places Kind.Fed layout.now.parts.parts j))) }
+        (bytes_of edges (chunk_of layout.now.parts) (needs_by (G.model program.now) edges layout.now.parts false t) (places Kind.Fed layout.now.parts.parts j))) }
     ensures intact { (edges : List Edge) → IsOnGrid edges layout.now.parts layout.now.table (D.holds depot.old) → IfErr result IsIntact }
     ensures damaged { IfErr result (ShowsStray layout.now.parts layout.now.table) }
     ensures reads { Reads D.holds D.taken D.stored D.faults D.attached FileKind.Secondary depot.old depot.new }
     ensures cause { result ≡ Err FileFault.Depot → Rose (D.faults depot.old) (D.faults depot.new) }
 {
     for i in j..layout.parts.parts() {
+        let hot = active.needed_fed(i);
         match feed_block(
             program,
             layout,
             Kind::Fed,
+            hot,
+            hot,
             depot,
             i,
             j,

@@ -21,7 +21,7 @@ ghost use Rattle.early_engine.specs.Runs.{RunComes, Streams};
 ghost use Rattle.early_engine.specs.Starts.{IsFromOutside, StartComes, phase_begun};
 ghost use Rattle.early_engine.specs.Turns.{RunIsOver, RunShows, TurnComes, phase_after, phase_of};
 
-use crate::begin::make_start;
+use crate::begin::{make_start, mark_first};
 use crate::layout::Layout;
 use crate::open::open_parts;
 use crate::options::{OpenFault, Phase, RunFault, RunOptions, Turn};
@@ -37,14 +37,20 @@ use std::alloc::Global;
 use std::marker::Model;
 
 /// A vertex program over the grid in a directory, whose iterations it makes by streaming the grid's blocks, as GridGraph
-/// does. In plain mode each iteration reads every block that has edges from Primary. In fed mode an odd iteration does
-/// that too, and feeds the blocks above the diagonal to the next one as well, whose sums for these blocks are so made
-/// early; the next one goes on from these sums, and reads only the blocks on the diagonal and below it, from Secondary.
-/// That is our own rule, and early propagation itself is an idea of LUMOS (Vora, 2019).
+/// does. In plain mode each iteration goes through every block, in Primary. In fed mode an odd iteration does that too,
+/// and feeds the blocks above the diagonal to the next one as well, whose sums for these blocks are so made early; the next
+/// one goes on from these sums, and goes only through the blocks on the diagonal and below it, in Secondary. That is our
+/// own rule, and early propagation itself is an idea of LUMOS (Vora, 2019).
+///
+/// A chunk is hot in an iteration where some vertex of it contributes by its value after that iteration. A block whose
+/// source chunk wasn't hot in the iteration before gives nothing, and it is skipped: GridGraph's selective scheduling, by
+/// chunk. Where an iteration feeds ahead, a block above the diagonal is also read where its source chunk is hot in the
+/// iteration itself, which is our own rule.
 ///
 /// It keeps the values of all vertices before and after an iteration, the early sums of all vertices, the sums of one
-/// part, and the edges of one block. Contracts see the program, the options, the grid's head and its blocks' numbers of
-/// edges, the values, the early sums, how far the run is, and how many iterations were finished.
+/// part, the edges of one block, and which chunks are hot. Contracts see the program, the options, the grid's head and its
+/// blocks' numbers of edges, the values, the early sums, which chunks are hot, how far the run is, and how many iterations
+/// were finished.
 #[derive(Drop)]
 pub struct Engine<G: VertexProgram> {
     program: G,
@@ -69,12 +75,13 @@ impl<G: VertexProgram> Model for Engine<G> {
       table = e.layout.table;
       values = e.room.before.items;
       early = e.room.early.items;
+      active = e.room.active.was_hot;
       phase = e.phase;
       finished = e.finished;
     } };
 
     ghost invariant = { λ e. IsEngine e.info e.options e.layout.parts e.layout.table
-        (vec_len e.room.before) (vec_len e.room.after) (vec_len e.room.sums) (vec_len e.room.early) (vec_len e.room.edges) e.phase e.finished };
+        (vec_len e.room.before) (vec_len e.room.after) (vec_len e.room.sums) (vec_len e.room.early) (vec_len e.room.edges) e.room.active.parts e.phase e.finished };
 }
 
 // How far an engine is after an iteration.
@@ -161,7 +168,8 @@ impl<G: VertexProgram> Engine<G> {
     /// Sets the values at first, by what the file Info says of each vertex, and writes the head of the report and these
     /// values, where they are shown. It needs an engine that is fresh, an attached directory and, where the contents are
     /// told, an Info with a record for each vertex, of which it takes each once. It takes no memory and changes no file.
-    /// What it keeps is what the event core keeps at its start. It does the same in both modes.
+    /// A chunk is hot then where some value at first contributes. What is kept is what the event core keeps at its start.
+    /// It does the same in both modes.
     ///
     /// `Depot` comes only where the depot's count of faults rose. `Out` comes only where the sink's rose, and leaves a
     /// front of the text. No other fault comes. After a fault the engine is stopped, else it is going.
@@ -197,6 +205,12 @@ impl<G: VertexProgram> Engine<G> {
             &mut self.room.before,
         ) {
             Ok(()) => {
+                mark_first(
+                    &self.program,
+                    self.layout.parts,
+                    &self.room.before,
+                    &mut self.room.active,
+                );
                 self.phase = Phase::Going;
                 Ok(())
             }
@@ -212,10 +226,12 @@ impl<G: VertexProgram> Engine<G> {
     /// going, an attached directory and, where the contents are told, a Primary and a Secondary with the records of their
     /// blocks. It takes no memory and changes no file.
     ///
-    /// A full iteration reads each block that has edges once, from Primary: in plain mode each iteration is full, in fed
-    /// mode each odd one. Where one more comes after it in fed mode, it feeds that one too, from each block above the
-    /// diagonal, whose sources are final by then. A fed iteration reads each block on the diagonal and below it that has
-    /// edges once, from Secondary. What is kept then is what the event core keeps after the same passes.
+    /// A full iteration goes through each block, in Primary: in plain mode each iteration is full, in fed mode each odd one.
+    /// Where one more comes after it in fed mode, it feeds that one too, from each block above the diagonal, whose sources
+    /// are final by then. A fed iteration goes through each block on the diagonal and below it, in Secondary. Of the blocks
+    /// that have edges it reads once each that is needed: its source chunk was hot in the iteration before, or it is fed
+    /// ahead and its source chunk is hot in this one. It skips the others, and counts them as skipped. What is kept then is
+    /// what the event core keeps after the same passes, in which it skips exactly the blocks from chunks that weren't hot.
     ///
     /// `Going`: the run goes on. `Ended`: it ended, still or by the limit. `Range` carries the iteration and the least
     /// vertex that is over in it, and comes exactly where there is one; nothing is written of that iteration. `Out` comes
@@ -228,7 +244,7 @@ impl<G: VertexProgram> Engine<G> {
         requires going { self.old.phase ≡ Phase.Going }
         ensures told { (edges : List Edge) → IsStanding (G.model self.old.program) edges (D.holds depot.old) self.old
             → TurnComes (G.model self.old.program) self.old.options.show self.old.options.mode edges (cut_in self.old.info) self.old.options.iterations self.old.finished
-            self.new.values self.new.early (O.written out.old) (O.written out.new) result }
+            self.new.values self.new.early self.new.active (O.written out.old) (O.written out.new) result }
         ensures stands { (edges : List Edge) → IsStanding (G.model self.old.program) edges (D.holds depot.old) self.old
             → result ≡ Ok Turn.Going → IsStanding (G.model self.old.program) edges (D.holds depot.new) self.new }
         ensures core { (edges : List Edge) → IsStanding (G.model self.old.program) edges (D.holds depot.old) self.old
@@ -240,10 +256,10 @@ impl<G: VertexProgram> Engine<G> {
         ensures left { self.new.phase ≡ Phase.Going → self.new.finished < self.new.options.iterations }
         ensures primary { (edges : List Edge) → IsStanding (G.model self.old.program) edges (D.holds depot.old) self.old
             → OnOk result (RoseBy (D.taken depot.old FileKind.Primary) (D.taken depot.new FileKind.Primary)
-            (primary_bytes (kind_of self.old.options.mode (self.old.finished + 1)) edges (chunk_of (cut_in self.old.info)) self.old.info.parts)) }
+            (primary_bytes (G.model self.old.program) edges self.old.info.vertices self.old.info.parts self.old.options.mode self.old.options.iterations (self.old.finished + 1))) }
         ensures secondary { (edges : List Edge) → IsStanding (G.model self.old.program) edges (D.holds depot.old) self.old
             → OnOk result (RoseBy (D.taken depot.old FileKind.Secondary) (D.taken depot.new FileKind.Secondary)
-            (secondary_bytes (kind_of self.old.options.mode (self.old.finished + 1)) edges (chunk_of (cut_in self.old.info)) self.old.info.parts)) }
+            (secondary_bytes (G.model self.old.program) edges self.old.info.vertices self.old.info.parts self.old.options.mode self.old.options.iterations (self.old.finished + 1))) }
         ensures over { IfErr result (RunIsOver G.Value.is_in_range G.Sum.is_in_range (G.model self.old.program)) }
         ensures damaged { IfErr result (RunShows (cut_in self.old.info) self.old.table) }
         ensures reads { Reads D.holds D.taken D.stored D.faults D.attached (file_of (kind_of self.old.options.mode (self.old.finished + 1))) depot.old depot.new }
@@ -277,7 +293,7 @@ impl<G: VertexProgram> Engine<G> {
     /// engine that is fresh, an attached directory and, where the contents are told, an Info with the records of all
     /// vertices, and a Primary and a Secondary with those of their blocks. It takes no memory and changes no file. It takes
     /// each record of Info once, and in each iteration each record of the blocks that it reads once: in a full one from
-    /// Primary, in a fed one from Secondary, as `turn` says of the two modes.
+    /// Primary, in a fed one from Secondary, as `turn` says of the two modes and of the blocks that are skipped.
     ///
     /// Ok tells how the run ended. `Range` carries the iteration and the least vertex that is over in it, and comes exactly
     /// where the run ends so; the report then ends after the last finished iteration. `Out` and `Depot` come only where the
@@ -294,10 +310,10 @@ impl<G: VertexProgram> Engine<G> {
             (O.written out.old) (O.written out.new) result }
         ensures primary { (edges : List Edge) → IsOpened edges (D.holds depot.old) self
             → IfOk result (λ end. RoseBy (D.taken depot.old FileKind.Primary) (D.taken depot.new FileKind.Primary)
-            (primary_taken self.options.mode edges (chunk_of (cut_in self.info)) self.info.parts end.iterations)) }
+            (primary_taken (G.model self.program) edges self.info.vertices self.info.parts self.options.mode self.options.iterations end.iterations)) }
         ensures secondary { (edges : List Edge) → IsOpened edges (D.holds depot.old) self
             → IfOk result (λ end. RoseBy (D.taken depot.old FileKind.Secondary) (D.taken depot.new FileKind.Secondary)
-            (secondary_taken self.options.mode edges (chunk_of (cut_in self.info)) self.info.parts end.iterations)) }
+            (secondary_taken (G.model self.program) edges self.info.vertices self.info.parts self.options.mode self.options.iterations end.iterations)) }
         ensures info_taken { OnOk result (RoseBy (D.taken depot.old FileKind.Info) (D.taken depot.new FileKind.Info) (12 * self.info.vertices)) }
         ensures over { IfErr result (RunIsOver G.Value.is_in_range G.Sum.is_in_range (G.model self.program)) }
         ensures damaged { IfErr result (RunShows (cut_in self.info) self.table) }

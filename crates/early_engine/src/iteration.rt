@@ -11,8 +11,8 @@ ghost use Rattle.early_engine.specs.Early.{IsKept, early_sum};
 ghost use Rattle.early_engine.specs.Engines.{IsRoomy};
 ghost use Rattle.early_engine.specs.Grids.{HasBlocks, IsLaid, IsOnGrid};
 ghost use Rattle.early_engine.specs.Making.{IsMade, IsUnmade, StopIsOver, StopShows};
-ghost use Rattle.early_engine.specs.Passes.{bytes_of, file_of, kind_of, passes};
-ghost use Rattle.early_engine.specs.Steps.{IsPassed};
+ghost use Rattle.early_engine.specs.Passes.{bytes_of, file_of, iteration_bytes, kind_of, passes};
+ghost use Rattle.early_engine.specs.Steps.{AreHot, IsPassed, needs_by};
 
 use crate::column::{feed_full, feed_rest};
 use crate::kind::{feeds_ahead, kind_of};
@@ -20,6 +20,7 @@ use crate::layout::Layout;
 use crate::options::RunOptions;
 use crate::part::make_part;
 use crate::room::Room;
+use active_sets::ActiveParts;
 use io_account::Counts;
 use lumos_base::{Edge, Vertex};
 use lumos_depot::{Depot, FileKind};
@@ -36,8 +37,9 @@ pub(crate) enum Stop {
     Over(Vertex),
 }
 
-// Makes the values after a full iteration of those before it, and counts its blocks and the values that moved. Where it
-// feeds ahead, it leaves the early sums of the next iteration. It stops at the first vertex that is over.
+// Makes the values after a full iteration of those before it, marks which parts are hot in it, and counts its blocks and the
+// values that moved. Where it feeds ahead, it leaves the early sums of the next iteration. It stops at the first vertex that
+// is over.
 fn full_iteration<G: VertexProgram, D: Depot>(
     program: &G,
     layout: &Layout,
@@ -48,6 +50,7 @@ fn full_iteration<G: VertexProgram, D: Depot>(
     sums: &mut [G::Sum],
     early: &mut [G::Sum],
     after: &mut [G::Value],
+    active: &mut ActiveParts,
 ) -> Result<Counts, Stop>
     requires attached { IsSome (D.attached depot.old) }
     requires laid { IsLaid layout.now.parts layout.now.table (length room.old) }
@@ -56,13 +59,17 @@ fn full_iteration<G: VertexProgram, D: Depot>(
     requires after_fits { length after.old ≡ layout.now.parts.vertices }
     requires sums_fit { chunk_of layout.now.parts ≤ length sums.old }
     requires early_fits { length early.old ≡ layout.now.parts.vertices }
+    requires active_fits { active.old.parts ≡ layout.now.parts.parts }
+    ensures active_fits { active.new.parts ≡ active.old.parts }
+    ensures was_hot { active.new.was_hot ≡ active.old.was_hot }
     ensures made { (edges : List Edge) (t : ℕ) → IsOnGrid edges layout.now.parts layout.now.table (D.holds depot.old)
-        → IsChunk (values (G.model program.now) edges t) 0 before.now
-        → MatchResult result (IsPassed (G.model program.now) edges layout.now.parts Kind.Full ahead t after.new early.new)
+        → IsChunk (values (G.model program.now) edges t) 0 before.now → AreHot (G.model program.now) edges layout.now.parts layout.now.parts.parts t active.old.was_hot
+        → MatchResult result (IsPassed (G.model program.now) edges layout.now.parts Kind.Full ahead t after.new early.new active.new.is_hot)
         (IsUnmade (G.model program.now) edges layout.now.parts t) }
-    ensures taken { (edges : List Edge) → IsOnGrid edges layout.now.parts layout.now.table (D.holds depot.old)
+    ensures taken { (edges : List Edge) (t : ℕ) → IsOnGrid edges layout.now.parts layout.now.table (D.holds depot.old)
+        → IsChunk (values (G.model program.now) edges t) 0 before.now → AreHot (G.model program.now) edges layout.now.parts layout.now.parts.parts t active.old.was_hot
         → OnOk result (RoseBy (D.taken depot.old FileKind.Primary) (D.taken depot.new FileKind.Primary)
-        (bytes_of edges (chunk_of layout.now.parts) (passes Kind.Full layout.now.parts.parts))) }
+        (bytes_of edges (chunk_of layout.now.parts) (needs_by (G.model program.now) edges layout.now.parts ahead t) (passes Kind.Full layout.now.parts.parts))) }
     ensures over { IfErr result (StopIsOver G.Value.is_in_range G.Sum.is_in_range (G.model program.now)) }
     ensures damaged { IfErr result (StopShows layout.now.parts layout.now.table) }
     ensures reads { Reads D.holds D.taken D.stored D.faults D.attached FileKind.Primary depot.old depot.new }
@@ -79,6 +86,7 @@ fn full_iteration<G: VertexProgram, D: Depot>(
             program,
             layout,
             ahead,
+            active,
             depot,
             j,
             room,
@@ -92,15 +100,18 @@ fn full_iteration<G: VertexProgram, D: Depot>(
             Err(fault) => return Err(Stop::File(fault)),
         }
         match make_part(program, layout, j, before, here, after) {
-            Ok(moved) => counts.add_moved(moved),
+            Ok(end) => {
+                active.mark(j, end.hot);
+                counts.add_moved(end.moved);
+            }
             Err(vertex) => return Err(Stop::Over(vertex)),
         }
     }
     Ok(counts)
 }
 
-// Makes the values after a fed iteration of those before it and of the early sums, with which it goes on, and counts its
-// blocks and the values that moved. It stops at the first vertex that is over.
+// Makes the values after a fed iteration of those before it and of the early sums, with which it goes on, marks which parts
+// are hot in it, and counts its blocks and the values that moved. It stops at the first vertex that is over.
 fn fed_iteration<G: VertexProgram, D: Depot>(
     program: &G,
     layout: &Layout,
@@ -109,6 +120,7 @@ fn fed_iteration<G: VertexProgram, D: Depot>(
     before: &[G::Value],
     early: &mut [G::Sum],
     after: &mut [G::Value],
+    active: &mut ActiveParts,
 ) -> Result<Counts, Stop>
     requires attached { IsSome (D.attached depot.old) }
     requires laid { IsLaid layout.now.parts layout.now.table (length room.old) }
@@ -116,14 +128,19 @@ fn fed_iteration<G: VertexProgram, D: Depot>(
     requires before_fits { length before.now ≡ layout.now.parts.vertices }
     requires after_fits { length after.old ≡ layout.now.parts.vertices }
     requires early_fits { length early.old ≡ layout.now.parts.vertices }
+    requires active_fits { active.old.parts ≡ layout.now.parts.parts }
+    ensures active_fits { active.new.parts ≡ active.old.parts }
+    ensures was_hot { active.new.was_hot ≡ active.old.was_hot }
     ensures made { (edges : List Edge) (t : ℕ) → IsOnGrid edges layout.now.parts layout.now.table (D.holds depot.old)
-        → IsChunk (values (G.model program.now) edges t) 0 before.now
+        → IsChunk (values (G.model program.now) edges t) 0 before.now → AreHot (G.model program.now) edges layout.now.parts layout.now.parts.parts t active.old.was_hot
         → IsChunk (early_sum (G.model program.now) edges (chunk_of layout.now.parts) (values (G.model program.now) edges t)) 0 early.old
-        → MatchResult result (IsPassed (G.model program.now) edges layout.now.parts Kind.Fed false t after.new early.new)
+        → MatchResult result (IsPassed (G.model program.now) edges layout.now.parts Kind.Fed false t after.new early.new active.new.is_hot)
         (IsUnmade (G.model program.now) edges layout.now.parts t) }
-    ensures taken { (edges : List Edge) → IsOnGrid edges layout.now.parts layout.now.table (D.holds depot.old)
+    ensures taken { (edges : List Edge) (t : ℕ) → IsOnGrid edges layout.now.parts layout.now.table (D.holds depot.old)
+        → IsChunk (values (G.model program.now) edges t) 0 before.now → AreHot (G.model program.now) edges layout.now.parts layout.now.parts.parts t active.old.was_hot
+        → IsChunk (early_sum (G.model program.now) edges (chunk_of layout.now.parts) (values (G.model program.now) edges t)) 0 early.old
         → OnOk result (RoseBy (D.taken depot.old FileKind.Secondary) (D.taken depot.new FileKind.Secondary)
-        (bytes_of edges (chunk_of layout.now.parts) (passes Kind.Fed layout.now.parts.parts))) }
+        (bytes_of edges (chunk_of layout.now.parts) (needs_by (G.model program.now) edges layout.now.parts false t) (passes Kind.Fed layout.now.parts.parts))) }
     ensures over { IfErr result (StopIsOver G.Value.is_in_range G.Sum.is_in_range (G.model program.now)) }
     ensures damaged { IfErr result (StopShows layout.now.parts layout.now.table) }
     ensures reads { Reads D.holds D.taken D.stored D.faults D.attached FileKind.Secondary depot.old depot.new }
@@ -133,12 +150,25 @@ fn fed_iteration<G: VertexProgram, D: Depot>(
     for j in 0..layout.parts.parts() {
         let range = layout.parts.range_of(j);
         let here = &mut early[range.first as usize..range.past as usize];
-        match feed_rest(program, layout, depot, j, room, before, here, &mut counts) {
+        match feed_rest(
+            program,
+            layout,
+            active,
+            depot,
+            j,
+            room,
+            before,
+            here,
+            &mut counts,
+        ) {
             Ok(()) => {}
             Err(fault) => return Err(Stop::File(fault)),
         }
         match make_part(program, layout, j, before, here, after) {
-            Ok(moved) => counts.add_moved(moved),
+            Ok(end) => {
+                active.mark(j, end.hot);
+                counts.add_moved(end.moved);
+            }
             Err(vertex) => return Err(Stop::Over(vertex)),
         }
     }
@@ -146,7 +176,8 @@ fn fed_iteration<G: VertexProgram, D: Depot>(
 }
 
 // Makes iteration t of a run: the values after it of those before it, and, where it feeds ahead, the early sums of the
-// next iteration. It counts its blocks and the values that moved, and stops at the first vertex that is over.
+// next iteration. It marks which parts are hot in it, counts its blocks and the values that moved, and stops at the first
+// vertex that is over.
 pub(crate) fn iterate<G: VertexProgram, D: Depot>(
     program: &G,
     layout: &Layout,
@@ -159,15 +190,17 @@ pub(crate) fn iterate<G: VertexProgram, D: Depot>(
     requires inside { HasBlocks layout.now.table (D.holds depot.old) }
     requires some { 0 < t }
     requires few { t ≤ options.iterations }
-    requires fits { IsRoomy layout.now.parts layout.now.table (vec_len room.old.before) (vec_len room.old.after) (vec_len room.old.sums) (vec_len room.old.early) (vec_len room.old.edges) }
-    ensures fits { IsRoomy layout.now.parts layout.now.table (vec_len room.new.before) (vec_len room.new.after) (vec_len room.new.sums) (vec_len room.new.early) (vec_len room.new.edges) }
-    ensures made { (edges : List Edge) (done : ℕ) → IsOnGrid edges layout.now.parts layout.now.table (D.holds depot.old)
-        → t ≡ done + 1 → IsKept (G.model program.now) edges layout.now.parts options.mode options.iterations done room.old.before.items room.old.early.items
-        → MatchResult result (λ counts. IsMade (G.model program.now) edges layout.now.parts options.mode options.iterations done room.new.after.items room.new.early.items counts)
+    requires fits { IsRoomy layout.now.parts layout.now.table (vec_len room.old.before) (vec_len room.old.after) (vec_len room.old.sums) (vec_len room.old.early) (vec_len room.old.edges) room.old.active.parts }
+    ensures fits { IsRoomy layout.now.parts layout.now.table (vec_len room.new.before) (vec_len room.new.after) (vec_len room.new.sums) (vec_len room.new.early) (vec_len room.new.edges) room.new.active.parts }
+    ensures was_hot { room.new.active.was_hot ≡ room.old.active.was_hot }
+    ensures made { (edges : List Edge) (done : ℕ) → IsOnGrid edges layout.now.parts layout.now.table (D.holds depot.old) → t ≡ done + 1
+        → IsKept (G.model program.now) edges layout.now.parts options.mode options.iterations done room.old.before.items room.old.early.items room.old.active.was_hot
+        → MatchResult result (λ counts. IsMade (G.model program.now) edges layout.now.parts options.mode options.iterations done room.new.after.items room.new.early.items room.new.active.is_hot counts)
         (IsUnmade (G.model program.now) edges layout.now.parts done) }
-    ensures taken { (edges : List Edge) → IsOnGrid edges layout.now.parts layout.now.table (D.holds depot.old)
+    ensures taken { (edges : List Edge) (done : ℕ) → IsOnGrid edges layout.now.parts layout.now.table (D.holds depot.old) → t ≡ done + 1
+        → IsKept (G.model program.now) edges layout.now.parts options.mode options.iterations done room.old.before.items room.old.early.items room.old.active.was_hot
         → OnOk result (RoseBy (D.taken depot.old (file_of (kind_of options.mode t))) (D.taken depot.new (file_of (kind_of options.mode t)))
-        (bytes_of edges (chunk_of layout.now.parts) (passes (kind_of options.mode t) layout.now.parts.parts))) }
+        (iteration_bytes (G.model program.now) edges layout.now.parts.vertices layout.now.parts.parts options.mode options.iterations t)) }
     ensures over { IfErr result (StopIsOver G.Value.is_in_range G.Sum.is_in_range (G.model program.now)) }
     ensures damaged { IfErr result (StopShows layout.now.parts layout.now.table) }
     ensures reads { Reads D.holds D.taken D.stored D.faults D.attached (file_of (kind_of options.mode t)) depot.old depot.new }
@@ -186,6 +219,7 @@ pub(crate) fn iterate<G: VertexProgram, D: Depot>(
                 &mut room.sums,
                 &mut room.early,
                 &mut room.after,
+                &mut room.active,
             )
         }
         Kind::Fed => fed_iteration(
@@ -196,6 +230,7 @@ pub(crate) fn iterate<G: VertexProgram, D: Depot>(
             &room.before,
             &mut room.early,
             &mut room.after,
+            &mut room.active,
         ),
     }
 }

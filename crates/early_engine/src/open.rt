@@ -17,6 +17,7 @@ ghost use Rattle.early_engine.specs.Opens.{OpenShows, fault_opened};
 use crate::layout::Layout;
 use crate::options::OpenFault;
 use crate::room::Room;
+use active_sets::ActiveParts;
 use grid_format::{BlockTable, GridInfo, TableFault, grids_are_read};
 use lumos_base::{Edge, OutInfo, Vertex, Weight};
 use lumos_depot::{Depot, FileKind};
@@ -70,7 +71,7 @@ fn parts_of(info: GridInfo) -> Parts
     }
 }
 
-// The lists of values and sums.
+// The lists of values and sums, and the parts, of which none is hot.
 fn make_lists<G: VertexProgram>(
     alloc: Global,
     program: &G,
@@ -80,6 +81,7 @@ fn make_lists<G: VertexProgram>(
     ensures after { IfOk result (λ room. vec_len room.after ≡ parts.vertices) }
     ensures sums { IfOk result (λ room. vec_len room.sums ≡ chunk_of parts) }
     ensures early { IfOk result (λ room. vec_len room.early ≡ parts.vertices) }
+    ensures active { IfOk result (λ room. room.active.parts ≡ parts.parts) }
     ensures memory { IfErr result (λ fault. fault ≡ OpenFault.NoMemory) }
 {
     let value = program.init(Vertex(0), NO_INFO);
@@ -103,6 +105,7 @@ fn make_lists<G: VertexProgram>(
         sums,
         early,
         edges: Vec::new(alloc),
+        active: ActiveParts::new(parts.parts()),
     })
 }
 
@@ -176,7 +179,7 @@ pub(crate) fn open_parts<G: VertexProgram, D: Depot>(
     ensures whole { IfOk result (λ opened. sum opened.layout.table.counts ≡ info.edges) }
     ensures blocks_fit { IfOk result (λ opened. HasBlocks opened.layout.table (D.holds depot.new)) }
     ensures fits { IfOk result (λ opened. IsRoomy opened.layout.parts opened.layout.table
-        (vec_len opened.room.before) (vec_len opened.room.after) (vec_len opened.room.sums) (vec_len opened.room.early) (vec_len opened.room.edges)) }
+        (vec_len opened.room.before) (vec_len opened.room.after) (vec_len opened.room.sums) (vec_len opened.room.early) (vec_len opened.room.edges) opened.room.active.parts) }
     ensures told { (edges : List Edge) → All IsEdge edges → HasGrid edges info.vertices info.parts → Holds (D.holds depot.old) (grid edges info.vertices info.parts)
         → IfOk result (λ opened. IsOnGrid edges (cut_in info) opened.layout.table (D.holds depot.new) × (info ≡ grid_head edges info.vertices info.parts)) }
     ensures damaged { IfErr result (OpenShows info (D.holds depot.old FileKind.Meta)) }

@@ -7,9 +7,9 @@ use lumos_report::Ending;
 #[derive(Clone, Copy, Debug, PartialEq, Eq, Drop)]
 pub enum Mode {
     /// Each odd iteration feeds the next one too, from each block above the diagonal, whose sources are then final; and the
-    /// next one reads only the blocks on the diagonal and below it. The rule is our own.
+    /// next one goes only through the blocks on the diagonal and below it. The rule is our own.
     Fed,
-    /// Each iteration reads every block that has edges, as GridGraph's does.
+    /// Each iteration goes through every block, as GridGraph's does.
     Plain,
 }
 

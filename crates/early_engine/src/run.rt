@@ -4,7 +4,6 @@ ghost use Rattle.lumos_base.specs.declared.records.Edge.{Edge};
 ghost use Rattle.lumos_depot.specs.Causes.{Rose};
 ghost use Rattle.lumos_depot.specs.declared.depot.FileKind.{FileKind};
 ghost use Rattle.lumos_law.specs.Sync.{ending};
-ghost use Rattle.partition.specs.Parts.{chunk_of};
 ghost use Rattle.value_files.specs.Outside.{RoseBy};
 ghost use Rattle.early_engine.specs.Engines.{IsStanding, cut_in};
 ghost use Rattle.early_engine.specs.Grids.{HasBlocks};
@@ -39,10 +38,10 @@ pub(crate) fn run_turns<G: VertexProgram, D: Depot, O: Sink>(
         (O.written out.old) (O.written out.new) result }
     ensures primary { (edges : List Edge) → IsStanding (G.model engine.old.program) edges (D.holds depot.old) engine.old
         → IfOk result (λ end. RoseBy (D.taken depot.old FileKind.Primary) (D.taken depot.new FileKind.Primary)
-        (primary_taken engine.old.options.mode edges (chunk_of (cut_in engine.old.info)) engine.old.info.parts end.iterations)) }
+        (primary_taken (G.model engine.old.program) edges engine.old.info.vertices engine.old.info.parts engine.old.options.mode engine.old.options.iterations end.iterations)) }
     ensures secondary { (edges : List Edge) → IsStanding (G.model engine.old.program) edges (D.holds depot.old) engine.old
         → IfOk result (λ end. RoseBy (D.taken depot.old FileKind.Secondary) (D.taken depot.new FileKind.Secondary)
-        (secondary_taken engine.old.options.mode edges (chunk_of (cut_in engine.old.info)) engine.old.info.parts end.iterations)) }
+        (secondary_taken (G.model engine.old.program) edges engine.old.info.vertices engine.old.info.parts engine.old.options.mode engine.old.options.iterations end.iterations)) }
     ensures infos { D.taken depot.new FileKind.Info ≡ D.taken depot.old FileKind.Info }
     ensures over { IfErr result (RunIsOver G.Value.is_in_range G.Sum.is_in_range (G.model engine.old.program)) }
     ensures damaged { IfErr result (RunShows (cut_in engine.old.info) engine.old.table) }

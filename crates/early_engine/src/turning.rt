@@ -4,7 +4,6 @@ ghost use Rattle.lumos_base.specs.declared.records.Edge.{Edge};
 ghost use Rattle.lumos_depot.specs.Causes.{Rose};
 ghost use Rattle.lumos_depot.specs.declared.depot.FileKind.{FileKind};
 ghost use Rattle.lumos_law.specs.Sync.{ending, ending_from};
-ghost use Rattle.partition.specs.Parts.{chunk_of};
 ghost use Rattle.value_files.specs.Outside.{Reads, RoseBy};
 ghost use Rattle.early_engine.specs.Early.{IsKept};
 ghost use Rattle.early_engine.specs.Engines.{IsRoomy};
@@ -25,7 +24,7 @@ use lumos_law::VertexProgram;
 use std::mem;
 use value_files::FileFault;
 
-// Makes iteration t, and leaves the values after it where those before it were.
+// Makes iteration t, and leaves the values after it where those before it were, and which parts are hot by them.
 fn advance<G: VertexProgram, D: Depot>(
     program: &G,
     layout: &Layout,
@@ -38,18 +37,20 @@ fn advance<G: VertexProgram, D: Depot>(
     requires inside { HasBlocks layout.now.table (D.holds depot.old) }
     requires some { 0 < t }
     requires few { t ≤ options.iterations }
-    requires fits { IsRoomy layout.now.parts layout.now.table (vec_len room.old.before) (vec_len room.old.after) (vec_len room.old.sums) (vec_len room.old.early) (vec_len room.old.edges) }
-    ensures fits { IsRoomy layout.now.parts layout.now.table (vec_len room.new.before) (vec_len room.new.after) (vec_len room.new.sums) (vec_len room.new.early) (vec_len room.new.edges) }
+    requires fits { IsRoomy layout.now.parts layout.now.table (vec_len room.old.before) (vec_len room.old.after) (vec_len room.old.sums) (vec_len room.old.early) (vec_len room.old.edges) room.old.active.parts }
+    ensures fits { IsRoomy layout.now.parts layout.now.table (vec_len room.new.before) (vec_len room.new.after) (vec_len room.new.sums) (vec_len room.new.early) (vec_len room.new.edges) room.new.active.parts }
     ensures made { (edges : List Edge) (done : ℕ) → IsOnGrid edges layout.now.parts layout.now.table (D.holds depot.old)
-        → t ≡ done + 1 → IsKept (G.model program.now) edges layout.now.parts options.mode options.iterations done room.old.before.items room.old.early.items
-        → MatchResult result (λ counts. IsMade (G.model program.now) edges layout.now.parts options.mode options.iterations done room.new.before.items room.new.early.items counts)
+        → t ≡ done + 1 → IsKept (G.model program.now) edges layout.now.parts options.mode options.iterations done room.old.before.items room.old.early.items room.old.active.was_hot
+        → MatchResult result (λ counts. IsMade (G.model program.now) edges layout.now.parts options.mode options.iterations done room.new.before.items room.new.early.items room.new.active.was_hot counts)
         (IsUnmade (G.model program.now) edges layout.now.parts done) }
-    ensures primary { (edges : List Edge) → IsOnGrid edges layout.now.parts layout.now.table (D.holds depot.old)
+    ensures primary { (edges : List Edge) (done : ℕ) → IsOnGrid edges layout.now.parts layout.now.table (D.holds depot.old)
+        → t ≡ done + 1 → IsKept (G.model program.now) edges layout.now.parts options.mode options.iterations done room.old.before.items room.old.early.items room.old.active.was_hot
         → OnOk result (RoseBy (D.taken depot.old FileKind.Primary) (D.taken depot.new FileKind.Primary)
-        (primary_bytes (kind_of options.mode t) edges (chunk_of layout.now.parts) layout.now.parts.parts)) }
-    ensures secondary { (edges : List Edge) → IsOnGrid edges layout.now.parts layout.now.table (D.holds depot.old)
+        (primary_bytes (G.model program.now) edges layout.now.parts.vertices layout.now.parts.parts options.mode options.iterations t)) }
+    ensures secondary { (edges : List Edge) (done : ℕ) → IsOnGrid edges layout.now.parts layout.now.table (D.holds depot.old)
+        → t ≡ done + 1 → IsKept (G.model program.now) edges layout.now.parts options.mode options.iterations done room.old.before.items room.old.early.items room.old.active.was_hot
         → OnOk result (RoseBy (D.taken depot.old FileKind.Secondary) (D.taken depot.new FileKind.Secondary)
-        (secondary_bytes (kind_of options.mode t) edges (chunk_of layout.now.parts) layout.now.parts.parts)) }
+        (secondary_bytes (G.model program.now) edges layout.now.parts.vertices layout.now.parts.parts options.mode options.iterations t)) }
     ensures over { IfErr result (StopIsOver G.Value.is_in_range G.Sum.is_in_range (G.model program.now)) }
     ensures damaged { IfErr result (StopShows layout.now.parts layout.now.table) }
     ensures reads { Reads D.holds D.taken D.stored D.faults D.attached (file_of (kind_of options.mode t)) depot.old depot.new }
@@ -58,6 +59,7 @@ fn advance<G: VertexProgram, D: Depot>(
     match iterate(program, layout, options, t, depot, room) {
         Ok(counts) => {
             mem::swap(&mut room.before, &mut room.after);
+            room.active.turn();
             Ok(counts)
         }
         Err(stop) => Err(stop),
@@ -94,22 +96,24 @@ pub(crate) fn make_turn<G: VertexProgram, D: Depot, O: Sink>(
     requires inside { HasBlocks layout.now.table (D.holds depot.old) }
     requires some { 0 < t }
     requires few { t ≤ options.iterations }
-    requires fits { IsRoomy layout.now.parts layout.now.table (vec_len room.old.before) (vec_len room.old.after) (vec_len room.old.sums) (vec_len room.old.early) (vec_len room.old.edges) }
-    ensures fits { IsRoomy layout.now.parts layout.now.table (vec_len room.new.before) (vec_len room.new.after) (vec_len room.new.sums) (vec_len room.new.early) (vec_len room.new.edges) }
+    requires fits { IsRoomy layout.now.parts layout.now.table (vec_len room.old.before) (vec_len room.old.after) (vec_len room.old.sums) (vec_len room.old.early) (vec_len room.old.edges) room.old.active.parts }
+    ensures fits { IsRoomy layout.now.parts layout.now.table (vec_len room.new.before) (vec_len room.new.after) (vec_len room.new.sums) (vec_len room.new.early) (vec_len room.new.edges) room.new.active.parts }
     ensures told { (edges : List Edge) (done : ℕ) → IsOnGrid edges layout.now.parts layout.now.table (D.holds depot.old)
-        → IsKept (G.model program.now) edges layout.now.parts options.mode options.iterations done room.old.before.items room.old.early.items
+        → IsKept (G.model program.now) edges layout.now.parts options.mode options.iterations done room.old.before.items room.old.early.items room.old.active.was_hot
         → t ≡ done + 1 → done < options.iterations
         → ending (G.model program.now) edges layout.now.parts.vertices options.iterations
         ≡ ending_from (G.model program.now) edges layout.now.parts.vertices (options.iterations - done) done
         → TurnComes (G.model program.now) options.show options.mode edges layout.now.parts options.iterations done
-        room.new.before.items room.new.early.items (O.written out.old) (O.written out.new) result }
+        room.new.before.items room.new.early.items room.new.active.was_hot (O.written out.old) (O.written out.new) result }
     ensures going { result ≡ Ok Turn.Going → t ≢ options.iterations }
-    ensures primary { (edges : List Edge) → IsOnGrid edges layout.now.parts layout.now.table (D.holds depot.old)
+    ensures primary { (edges : List Edge) (done : ℕ) → IsOnGrid edges layout.now.parts layout.now.table (D.holds depot.old)
+        → t ≡ done + 1 → IsKept (G.model program.now) edges layout.now.parts options.mode options.iterations done room.old.before.items room.old.early.items room.old.active.was_hot
         → OnOk result (RoseBy (D.taken depot.old FileKind.Primary) (D.taken depot.new FileKind.Primary)
-        (primary_bytes (kind_of options.mode t) edges (chunk_of layout.now.parts) layout.now.parts.parts)) }
-    ensures secondary { (edges : List Edge) → IsOnGrid edges layout.now.parts layout.now.table (D.holds depot.old)
+        (primary_bytes (G.model program.now) edges layout.now.parts.vertices layout.now.parts.parts options.mode options.iterations t)) }
+    ensures secondary { (edges : List Edge) (done : ℕ) → IsOnGrid edges layout.now.parts layout.now.table (D.holds depot.old)
+        → t ≡ done + 1 → IsKept (G.model program.now) edges layout.now.parts options.mode options.iterations done room.old.before.items room.old.early.items room.old.active.was_hot
         → OnOk result (RoseBy (D.taken depot.old FileKind.Secondary) (D.taken depot.new FileKind.Secondary)
-        (secondary_bytes (kind_of options.mode t) edges (chunk_of layout.now.parts) layout.now.parts.parts)) }
+        (secondary_bytes (G.model program.now) edges layout.now.parts.vertices layout.now.parts.parts options.mode options.iterations t)) }
     ensures over { IfErr result (RunIsOver G.Value.is_in_range G.Sum.is_in_range (G.model program.now)) }
     ensures damaged { IfErr result (RunShows layout.now.parts layout.now.table) }
     ensures reads { Reads D.holds D.taken D.stored D.faults D.attached (file_of (kind_of options.mode t)) depot.old depot.new }

@@ -15,7 +15,7 @@ use Rattle.edge_text.specs.declared.fault.TextLimits.{TextLimits}
 use Rattle.grid_format.specs.Checks.{GridFiles, head_of}
 use Rattle.grid_format.specs.Grid.{HasGrid, IsRead, grid, grid_head}
 use Rattle.grid_format.specs.Outside.{Holds, OnlyReads}
-use Rattle.partition.specs.Parts.{Cut, chunk_of, chunk_size}
+use Rattle.partition.specs.Parts.{Cut}
 use Rattle.grid_format.specs.declared.head.GridInfo.{GridInfo}
 use Rattle.grid_build.specs.Built.{HasFiles, IsBuilt}
 use Rattle.grid_build.specs.Outside.{LeavesRuns as BuildLeaves, RoseBy}
@@ -26,7 +26,7 @@ use Rattle.lumos_law.specs.Sync.{ending}
 use Rattle.lumos_report.specs.declared.records.Ending.{Ending as EndingRecord}
 use Rattle.lumos_report.specs.declared.records.Why.{Why}
 use Rattle.lumos_report.specs.declared.records.Why.TheVariants.{Still, Limit}
-use Rattle.early_engine.specs.Engines.{EngineState, IsOpened, cut_in}
+use Rattle.early_engine.specs.Engines.{EngineState, IsOpened}
 use Rattle.early_engine.specs.Passes.{primary_taken, secondary_taken}
 use Rattle.early_engine.specs.Opens.{OpenShows}
 use Rattle.early_engine.specs.Report.{finished, report}
@@ -201,12 +201,11 @@ comes_at model name program list parts options info was engine old new r program
 -- what a run comes to
 abbrev ran_with : {V S : Type 0} → Program V S → List ℕ → Listed → ℕ → RunOptions → Ran
 ran_with p name list parts options =
-    let end = ending p list.edges list.vertices options.iterations in
-    let c = chunk_size list.vertices parts in record {
+    let end = ending p list.edges list.vertices options.iterations in record {
       text = report p name options.show options.mode list.edges list.vertices parts options.iterations;
       ending = end;
-      primary = primary_taken options.mode list.edges c parts (finished end);
-      secondary = secondary_taken options.mode list.edges c parts (finished end);
+      primary = primary_taken p list.edges list.vertices parts options.mode options.iterations (finished end);
+      secondary = secondary_taken p list.edges list.vertices parts options.mode options.iterations (finished end);
     }
 
 -- an engine that was opened on a grid, and what came of its run
@@ -234,28 +233,29 @@ takes_stop ran files before after (run_fault.Range iteration vertex) = tt
 takes_stop ran files before after (run_fault.Damaged kind place found) = tt
 
 -- how many bytes the first iterations of a run take of some file
-abbrev pub Size : Type 0
-Size = Mode → List Edge → ℕ → ℕ → ℕ → ℕ
+abbrev pub Size : Type 0 → Type 0 → Type 0
+Size V S = Program V S → List Edge → ℕ → ℕ → Mode → ℕ → ℕ → ℕ
 
 -- the same count, by the list and by how the run ends
-size_at : (size : Size) (list : Listed) (parts : ℕ) (options own : RunOptions) (info : GridInfo) (iterations done first before after : ℕ) →
-    own ≡ options → info ≡ grid_head list.edges list.vertices parts → iterations ≡ done → before ≡ first →
-    RoseBy before after (size own.mode list.edges (chunk_of (cut_in info)) info.parts iterations) →
-    RoseBy first after (size options.mode list.edges (chunk_size list.vertices parts) parts done)
-size_at size list parts options own info iterations done first before after options_is info_is count same took =
-    let c = chunk_size list.vertices parts in
-    subst (λ (b : ℕ). RoseBy b after (size options.mode list.edges c parts done)) same
-    (subst (λ (k : ℕ). RoseBy before after (size options.mode list.edges c parts k)) count
-    (subst (λ (o : RunOptions). RoseBy before after (size o.mode list.edges c parts iterations)) options_is
-    (subst (λ (i : GridInfo). RoseBy before after (size own.mode list.edges (chunk_of (cut_in i)) i.parts iterations)) info_is took)))
+size_at : {G V S : Type 0} (size : Size V S) (model : G → Program V S) (list : Listed) (parts : ℕ) (program mine : G) (options own : RunOptions) (info : GridInfo) (iterations done first before after : ℕ) →
+    mine ≡ program → own ≡ options → info ≡ grid_head list.edges list.vertices parts → iterations ≡ done → before ≡ first →
+    RoseBy before after (size (model mine) list.edges info.vertices info.parts own.mode own.iterations iterations) →
+    RoseBy first after (size (model program) list.edges list.vertices parts options.mode options.iterations done)
+size_at size model list parts program mine options own info iterations done first before after program_is options_is info_is count same took =
+    let n = list.vertices in
+    subst (λ (b : ℕ). RoseBy b after (size (model program) list.edges n parts options.mode options.iterations done)) same
+    (subst (λ (k : ℕ). RoseBy before after (size (model program) list.edges n parts options.mode options.iterations k)) count
+    (subst (λ (x : _). RoseBy before after (size (model x) list.edges n parts options.mode options.iterations iterations)) program_is
+    (subst (λ (o : RunOptions). RoseBy before after (size (model mine) list.edges n parts o.mode o.iterations iterations)) options_is
+    (subst (λ (i : GridInfo). RoseBy before after (size (model mine) list.edges i.vertices i.parts own.mode own.iterations iterations)) info_is took))))
 
 -- what its run took of Primary and of Secondary
 pub run_took : {G V S : Type 0} (model : G → Program V S) (name : G → List ℕ) (program : G) (list : Listed) (parts : ℕ) (options : RunOptions) (info : GridInfo) (was is : FileKind → Option (List ℕ)) (engine : EngineState G V S) (old new : Option (List ℕ)) (end : EndingRecord) (first before after : FileKind → ℕ) →
     engine.program ≡ program → engine.options ≡ options → engine.info ≡ info → IsGridOf list parts info was →
     ((edges : List Edge) → All IsEdge edges → HasGrid edges info.vertices info.parts → Holds was (grid edges info.vertices info.parts) → IsOpened edges is engine) →
     ((edges : List Edge) → IsOpened edges is engine → RunComes (ending (model engine.program) edges engine.info.vertices engine.options.iterations) (report (model engine.program) (name engine.program) engine.options.show engine.options.mode edges engine.info.vertices engine.info.parts engine.options.iterations) old new (Ok end)) →
-    ((edges : List Edge) → IsOpened edges is engine → RoseBy (before Primary) (after Primary) (primary_taken engine.options.mode edges (chunk_of (cut_in engine.info)) engine.info.parts end.iterations)) →
-    ((edges : List Edge) → IsOpened edges is engine → RoseBy (before Secondary) (after Secondary) (secondary_taken engine.options.mode edges (chunk_of (cut_in engine.info)) engine.info.parts end.iterations)) →
+    ((edges : List Edge) → IsOpened edges is engine → RoseBy (before Primary) (after Primary) (primary_taken (model engine.program) edges engine.info.vertices engine.info.parts engine.options.mode engine.options.iterations end.iterations)) →
+    ((edges : List Edge) → IsOpened edges is engine → RoseBy (before Secondary) (after Secondary) (secondary_taken (model engine.program) edges engine.info.vertices engine.info.parts engine.options.mode engine.options.iterations end.iterations)) →
     before Primary ≡ first Primary → before Secondary ≡ first Secondary →
     RunTakes (ran_with (model program) (name program) list parts options) was first after (Ok (ending_of end))
 run_took model name program list parts options info was is engine old new end first before after program_is options_is info_is g opens runs primary secondary same_primary same_secondary =
@@ -264,8 +264,8 @@ run_took model name program list parts options info was is engine old new end fi
     let comes = comes_at model name program list parts options info was engine old new (Ok end) program_is options_is info_is g (runs list.edges opened) in
     let count = sym (finished_told end.why end.iterations) ∙ sym (ap finished comes.0) in
     let done = finished (ending (model program) list.edges list.vertices options.iterations) in record {
-      primary_rose = size_at primary_taken list parts options engine.options engine.info end.iterations done (first Primary) (before Primary) (after Primary) options_is (info_is ∙ g.head) count same_primary (primary list.edges opened);
-      secondary_rose = size_at secondary_taken list parts options engine.options engine.info end.iterations done (first Secondary) (before Secondary) (after Secondary) options_is (info_is ∙ g.head) count same_secondary (secondary list.edges opened);
+      primary_rose = size_at primary_taken model list parts program engine.program options engine.options engine.info end.iterations done (first Primary) (before Primary) (after Primary) program_is options_is (info_is ∙ g.head) count same_primary (primary list.edges opened);
+      secondary_rose = size_at secondary_taken model list parts program engine.program options engine.options engine.info end.iterations done (first Secondary) (before Secondary) (after Secondary) program_is options_is (info_is ∙ g.head) count same_secondary (secondary list.edges opened);
     })
 
 -- an engine that wasn't opened

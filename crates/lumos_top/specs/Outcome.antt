@@ -15,7 +15,6 @@ use Rattle.programs.specs.Components.{components_program}
 use Rattle.programs.specs.Tally.{tally_program}
 use Rattle.grid_format.specs.Checks.{GridFiles}
 use Rattle.grid_format.specs.Grid.{grid}
-use Rattle.partition.specs.Parts.{chunk_size}
 use Rattle.early_engine.specs.Passes.{primary_taken, secondary_taken}
 use Rattle.early_engine.specs.Report.{finished, report}
 use Rattle.early_engine.specs.declared.options.Mode.{Mode}
@@ -63,12 +62,11 @@ pub record Ran : Type 0 where
 
 abbrev pub ran_by : {V S : Type 0} → Program V S → List ℕ → ℕ → ℕ → Mode → Listed → Ran
 ran_by p name parts iterations mode list =
-    let end = ending p list.edges list.vertices iterations in
-    let c = chunk_size list.vertices parts in record {
+    let end = ending p list.edges list.vertices iterations in record {
       text = report p name All mode list.edges list.vertices parts iterations;
       ending = end;
-      primary = primary_taken mode list.edges c parts (finished end);
-      secondary = secondary_taken mode list.edges c parts (finished end);
+      primary = primary_taken p list.edges list.vertices parts mode iterations (finished end);
+      secondary = secondary_taken p list.edges list.vertices parts mode iterations (finished end);
     }
 
 abbrev pub ran_as : ProgramName → ℕ → ℕ → Mode → Listed → Ran

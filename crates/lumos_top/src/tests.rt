@@ -153,12 +153,23 @@ const FOUR_ONCE: Row<'static> = Row {
     ..FOUR
 };
 
-// A build takes 36 bytes of Primary, a full iteration 48, and a fed one none of it and 36 of Secondary.
+// A chain of three, each in a part of its own: both of its blocks feed ahead, and at last none has news to tell.
+const CHAIN: Row<'static> = Row {
+    words: &["run", "components", "--parts", "3", "--iterations", "10"],
+    input: "0 1\n1 2\n",
+    out: "lumos components vertices 3 edges 2 parts 3\niteration 0\n0 0\n1 1\n2 2\niteration 1 full primary 2 secondary 0 skipped 0 empty 7 moved 2\n0 0\n1 0\n2 1\niteration 2 fed primary 0 secondary 0 skipped 0 empty 6 moved 1\n0 0\n1 0\n2 0\niteration 3 full primary 0 secondary 0 skipped 2 empty 7 moved 0\n0 0\n1 0\n2 0\nstill 3\n",
+    path: Some("."),
+    ..ROW
+};
+
+// A build takes 36 bytes of Primary, a full iteration 48, and a fed one none of it and 36 of Secondary. Of the chain nothing is
+// copied, and each edge is taken once.
 #[test]
 fn a_fed_iteration_takes_nothing_of_primary(rt: HostRuntime) -> Result<(), Fail> {
     assert_eq!(rt; check(&rt, rt.alloc(), &FOUR)?, (84, 36));
     assert_eq!(rt; check(&rt, rt.alloc(), &FOUR_PLAIN)?, (132, 0));
     assert_eq!(rt; check(&rt, rt.alloc(), &FOUR_ONCE)?, (84, 0));
+    assert_eq!(rt; check(&rt, rt.alloc(), &CHAIN)?, (24, 0));
     Ok(())
 }
 

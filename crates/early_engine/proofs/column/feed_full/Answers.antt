@@ -1,13 +1,14 @@
-use Rattle.std.proofs.Common.{◌≡◌, ℕ, ◌<◌, ◌+◌, ◌*◌, ◌∷◌, ◌++◌, [], min, length, refl, sym, ap, ◌∙◌, append-nil, append_assoc, arith}
+use Rattle.std.proofs.Common.{◌≡◌, ℕ, suc, ◌<◌, ◌+◌, ◌∷◌, ◌++◌, [], min, refl, sym, ap, ◌∙◌, append-nil, append_assoc, arith}
 use Rattle.lumos_depot.specs.declared.depot.FileKind.TheVariants.{Primary}
+use Rattle.lumos_law.specs.Sync.{values}
 use Rattle.lumos_report.specs.declared.records.Kind.TheVariants.{Full}
-use Rattle.partition.specs.Blocks.{block}
 use Rattle.partition.specs.Parts.{chunk_of, first_vertex}
 use Rattle.early_engine.specs.Passes.{bytes_of, place_at, tally_of}
+use Rattle.early_engine.specs.Steps.{needs_by}
 use Rattle.early_engine.proofs.FeedLemmas.{fed_as, fed_none}
 use Rattle.early_engine.proofs.GridLemmas.{blocks_same, on_grid_same}
 use Rattle.early_engine.proofs.Moving.{reads_none, reads_then, rose_then}
-use Rattle.early_engine.proofs.PassLemmas.{bytes_more, rows_from, rows_more}
+use Rattle.early_engine.proofs.PassLemmas.{bytes_both, rows_from, rows_more}
 use Rattle.early_engine.proofs.column.feed_full.Goals as goal
 
 pub loop-i-init : goal.loop-i-init
@@ -21,10 +22,10 @@ loop-i-init g c =
       reads = reads_none g.D.Depot.holds g.D.Depot.taken g.D.Depot.stored g.D.Depot.faults g.D.Depot.attached Primary c.args.depot.now;
       few = omega arith;
       moved = refl;
-      fed = λ edges state grid values. fed_none p edges cut j 0 state g.G.Sum.Combine.unit c.clear_sums.new.sums refl unit_is (c.clear_sums.ensures first);
-      ahead = λ edges next grid on values. fed_none p edges cut j (min 0 j) next g.G.Sum.Combine.unit c.clear_early.new.early (omega arith) unit_is (c.clear_early.ensures on first);
-      counted = λ edges bs moved grid is. is ∙ ap (λ l. tally_of Full edges (chunk_of cut) l moved) (sym (append-nil bs));
-      taken = λ edges grid low. omega arith;
+      fed = λ edges t grid ready. fed_none p edges cut j 0 (values p edges t) g.G.Sum.Combine.unit c.clear_sums.new.sums refl unit_is (c.clear_sums.ensures first);
+      ahead = λ edges t grid ready on. fed_none p edges cut j (min 0 j) (values p edges (suc t)) g.G.Sum.Combine.unit c.clear_early.new.early (omega arith) unit_is (c.clear_early.ensures on first);
+      counted = λ edges t bs moved grid ready is. is ∙ ap (λ l. tally_of Full edges (chunk_of cut) (needs_by p edges cut c.args.ahead t) l moved) (sym (append-nil bs));
+      taken = λ edges t grid ready low. omega arith;
     }
 
 pub feed_both-requires-clause-inside : goal.feed_both-requires-clause-inside
@@ -36,6 +37,7 @@ returns-in-Err-clause-reads g c =
 
 pub loop-i-preserved : goal.loop-i-preserved
 loop-i-preserved g c =
+    let p = g.G.VertexProgram.model c.args.program.now in
     let cut = c.args.layout.now.parts in
     let table = c.args.layout.now.table in
     let i = c.loop-i.i in
@@ -47,42 +49,48 @@ loop-i-preserved g c =
       reads = reads_then g.D.Depot.holds g.D.Depot.taken g.D.Depot.stored g.D.Depot.faults g.D.Depot.attached Primary _ _ _ kept.reads next.reads;
       few = omega (arith, next.few, kept.few);
       moved = next.moved ∙ kept.moved;
-      fed = λ edges state grid values.
-          next.fed edges state (on_grid_same edges cut table _ _ kept.reads.contents grid) values (kept.fed edges state grid values);
-      ahead = λ edges then grid on values.
-          next.ahead edges then (on_grid_same edges cut table _ _ kept.reads.contents grid) on values (kept.ahead edges then grid on values);
-      counted = λ edges bs moved grid is.
+      fed = λ edges t grid ready.
+          next.fed edges t (on_grid_same edges cut table _ _ kept.reads.contents grid) ready (kept.fed edges t grid ready);
+      ahead = λ edges t grid ready on.
+          next.ahead edges t (on_grid_same edges cut table _ _ kept.reads.contents grid) ready on (kept.ahead edges t grid ready on);
+      counted = λ edges t bs moved grid ready is.
           let here = on_grid_same edges cut table _ _ kept.reads.contents grid in
-          next.counted edges (bs ++ rows_from 0 i j) moved here (kept.counted edges bs moved grid is)
-          ∙ ap (λ l. tally_of Full edges (chunk_of cut) l moved) (append_assoc bs (rows_from 0 i j) (place_at i j ∷ []) ∙ ap (λ l. bs ++ l) (sym (rows_more 0 i i j at)));
-      taken = λ edges grid.
+          let need = needs_by p edges cut c.args.ahead t in
+          next.counted edges t (bs ++ rows_from 0 i j) moved here ready (kept.counted edges t bs moved grid ready is)
+          ∙ ap (λ l. tally_of Full edges (chunk_of cut) need l moved) (append_assoc bs (rows_from 0 i j) (place_at i j ∷ []) ∙ ap (λ l. bs ++ l) (sym (rows_more 0 i i j at)));
+      taken = λ edges t grid ready.
           let here = on_grid_same edges cut table _ _ kept.reads.contents grid in
-          rose_then _ _ _ (bytes_of edges (chunk_of cut) (rows_from 0 i j)) (12 * length (block edges (chunk_of cut) i j)) _
-          (ap (bytes_of edges (chunk_of cut)) (rows_more 0 i i j at) ∙ bytes_more edges (chunk_of cut) (rows_from 0 i j) (place_at i j)) (kept.taken edges grid) (next.taken edges here);
+          let need = needs_by p edges cut c.args.ahead t in
+          rose_then _ _ _ (bytes_of edges (chunk_of cut) need (rows_from 0 i j)) (bytes_of edges (chunk_of cut) need (place_at i j ∷ [])) _
+          (ap (bytes_of edges (chunk_of cut) need) (rows_more 0 i i j at) ∙ bytes_both edges (chunk_of cut) need (rows_from 0 i j) (place_at i j ∷ [])) (kept.taken edges t grid ready) (next.taken edges t here ready);
     }
 
 pub returns-clause-fed : goal.returns-clause-fed
-returns-clause-fed g c edges state grid values =
+returns-clause-fed g c edges t grid ready =
     let cut = c.args.layout.now.parts in
     let all : c.loop-i.i ≡ cut.parts = omega (arith, c.loop-i.auto.i-end, c.loop-i-test.false, c.parts-i-end.ensures.value) in
-    fed_as (g.G.VertexProgram.model c.args.program.now) edges cut c.args.j _ _ state c.loop-i.sums all (c.loop-i.invariant.fed edges state grid values)
+    let p = g.G.VertexProgram.model c.args.program.now in
+    fed_as p edges cut c.args.j _ _ (values p edges t) c.loop-i.sums all (c.loop-i.invariant.fed edges t grid ready)
 
 pub returns-clause-ahead : goal.returns-clause-ahead
-returns-clause-ahead g c edges next grid on values =
+returns-clause-ahead g c edges t grid ready on =
     let cut = c.args.layout.now.parts in
     let all : c.loop-i.i ≡ cut.parts = omega (arith, c.loop-i.auto.i-end, c.loop-i-test.false, c.parts-i-end.ensures.value) in
     let inside : c.args.j < cut.parts = c.requires.column in
     let rows : min c.loop-i.i c.args.j ≡ c.args.j = omega (arith, all, inside) in
-    fed_as (g.G.VertexProgram.model c.args.program.now) edges cut c.args.j _ _ next c.loop-i.early rows (c.loop-i.invariant.ahead edges next grid on values)
+    let p = g.G.VertexProgram.model c.args.program.now in
+    fed_as p edges cut c.args.j _ _ (values p edges (suc t)) c.loop-i.early rows (c.loop-i.invariant.ahead edges t grid ready on)
 
 pub returns-clause-counted : goal.returns-clause-counted
-returns-clause-counted g c edges bs moved grid is =
+returns-clause-counted g c edges t bs moved grid ready is =
+    let need = needs_by (g.G.VertexProgram.model c.args.program.now) edges c.args.layout.now.parts c.args.ahead t in
     let cut = c.args.layout.now.parts in
     let all : c.loop-i.i ≡ cut.parts = omega (arith, c.loop-i.auto.i-end, c.loop-i-test.false, c.parts-i-end.ensures.value) in
-    c.loop-i.invariant.counted edges bs moved grid is ∙ ap (λ (n : ℕ). tally_of Full edges (chunk_of cut) (bs ++ rows_from 0 n c.args.j) moved) all
+    c.loop-i.invariant.counted edges t bs moved grid ready is ∙ ap (λ (n : ℕ). tally_of Full edges (chunk_of cut) need (bs ++ rows_from 0 n c.args.j) moved) all
 
 pub returns-clause-taken : goal.returns-clause-taken
-returns-clause-taken g c edges grid low =
+returns-clause-taken g c edges t grid ready low =
+    let need = needs_by (g.G.VertexProgram.model c.args.program.now) edges c.args.layout.now.parts c.args.ahead t in
     let cut = c.args.layout.now.parts in
     let all : c.loop-i.i ≡ cut.parts = omega (arith, c.loop-i.auto.i-end, c.loop-i-test.false, c.parts-i-end.ensures.value) in
-    c.loop-i.invariant.taken edges grid low ∙ ap (λ (n : ℕ). g.D.Depot.taken c.args.depot.now Primary + bytes_of edges (chunk_of cut) (rows_from 0 n c.args.j)) all
+    c.loop-i.invariant.taken edges t grid ready low ∙ ap (λ (n : ℕ). g.D.Depot.taken c.args.depot.now Primary + bytes_of edges (chunk_of cut) need (rows_from 0 n c.args.j)) all

@@ -1,17 +1,20 @@
-use Rattle.std.proofs.Common.{◌≡◌, ℕ, ◌<◌, ◌≤◌, ◌+◌, ◌-◌, ◌*◌, ◌∷◌, ◌++◌, [], length, refl, sym, ap, ◌∙◌, append-nil, append_assoc, arith}
+use Rattle.std.proofs.Common.{◌≡◌, ℕ, ◌<◌, ◌≤◌, ◌+◌, ◌-◌, ◌∷◌, ◌++◌, [], false, refl, sym, ap, ◌∙◌, append-nil, append_assoc, arith}
 use Rattle.lumos_depot.specs.declared.depot.FileKind.TheVariants.{Secondary}
+use Rattle.lumos_law.specs.Sync.{values}
 use Rattle.lumos_report.specs.declared.records.Kind.TheVariants.{Fed}
-use Rattle.partition.specs.Blocks.{block}
 use Rattle.partition.specs.Parts.{chunk_of}
-use Rattle.early_engine.specs.Passes.{bytes_of, place_at, tally_of}
+use Rattle.early_engine.specs.Passes.{bytes_of, is_hot, place_at, tally_of}
+use Rattle.early_engine.specs.Steps.{needs_by}
 use Rattle.early_engine.proofs.FeedLemmas.{fed_as}
 use Rattle.early_engine.proofs.GridLemmas.{blocks_same, on_grid_same}
+use Rattle.early_engine.proofs.HotLemmas.{need_alone}
 use Rattle.early_engine.proofs.Moving.{reads_none, reads_then, rose_then}
-use Rattle.early_engine.proofs.PassLemmas.{bytes_more, rows_from, rows_more}
+use Rattle.early_engine.proofs.PassLemmas.{bytes_both, rows_from, rows_more}
 use Rattle.early_engine.proofs.column.feed_rest.Goals as goal
 
 pub loop-i-init : goal.loop-i-init
 loop-i-init g c =
+    let p = g.G.VertexProgram.model c.args.program.now in
     let cut = c.args.layout.now.parts in
     let j = c.args.j in
     let none : j - j ≡ 0 = omega arith in
@@ -20,10 +23,10 @@ loop-i-init g c =
       few = omega arith;
       from = omega arith;
       moved = refl;
-      fed = λ edges state grid values sums. sums;
-      counted = λ edges bs moved grid is.
-          is ∙ ap (λ l. tally_of Fed edges (chunk_of cut) l moved) (sym (ap (λ (n : ℕ). bs ++ rows_from j n j) none ∙ append-nil bs));
-      taken = λ edges grid low. omega (arith, ap (λ (n : ℕ). bytes_of edges (chunk_of cut) (rows_from j n j)) none);
+      fed = λ edges t grid holds hot sums. sums;
+      counted = λ edges t bs moved grid hot is.
+          is ∙ ap (λ l. tally_of Fed edges (chunk_of cut) (needs_by p edges cut false t) l moved) (sym (ap (λ (n : ℕ). bs ++ rows_from j n j) none ∙ append-nil bs));
+      taken = λ edges t grid hot low. omega (arith, ap (λ (n : ℕ). bytes_of edges (chunk_of cut) (needs_by p edges cut false t) (rows_from j n j)) none);
     }
 
 pub feed_block-requires-clause-inside : goal.feed_block-requires-clause-inside
@@ -35,6 +38,7 @@ returns-in-Err-clause-reads g c =
 
 pub loop-i-preserved : goal.loop-i-preserved
 loop-i-preserved g c =
+    let p = g.G.VertexProgram.model c.args.program.now in
     let cut = c.args.layout.now.parts in
     let table = c.args.layout.now.table in
     let i = c.loop-i.i in
@@ -42,6 +46,7 @@ loop-i-preserved g c =
     let kept = c.loop-i.invariant in
     let next = c.in-Ok.ensures in
     let from : j ≤ i = kept.from in
+    let row : i < cut.parts = omega (arith, c.loop-i.auto.i-end, c.loop-i-test.true, c.parts-i-end.ensures.value) in
     let at : i ≡ j + (i - j) = omega (arith, from) in
     let grown : i + 1 - j ≡ (i - j) + 1 = omega (arith, from) in
     let more = ap (λ (n : ℕ). rows_from j n j) grown ∙ rows_more j (i - j) i j at in
@@ -50,35 +55,42 @@ loop-i-preserved g c =
       few = omega (arith, next.few, kept.few);
       from = omega (arith, from);
       moved = next.moved ∙ kept.moved;
-      fed = λ edges state grid values sums.
-          next.fed edges state (on_grid_same edges cut table _ _ kept.reads.contents grid) values (kept.fed edges state grid values sums);
-      counted = λ edges bs moved grid is.
+      fed = λ edges t grid holds hot sums.
+          next.fed edges t (on_grid_same edges cut table _ _ kept.reads.contents grid) (c.needed_fed-hot.ensures ∙ hot i row) holds (kept.fed edges t grid holds hot sums);
+      counted = λ edges t bs moved grid hot is.
           let here = on_grid_same edges cut table _ _ kept.reads.contents grid in
-          next.counted edges (bs ++ rows_from j (i - j) j) moved here (kept.counted edges bs moved grid is)
-          ∙ ap (λ l. tally_of Fed edges (chunk_of cut) l moved) (append_assoc bs (rows_from j (i - j) j) (place_at i j ∷ []) ∙ ap (λ l. bs ++ l) (sym more));
-      taken = λ edges grid.
+          let need = needs_by p edges cut false t in
+          let needed = need_alone c.needed_fed-hot.result (is_hot p edges cut.vertices cut.parts t i) (c.needed_fed-hot.ensures ∙ hot i row) in
+          next.counted edges need (bs ++ rows_from j (i - j) j) moved here needed (kept.counted edges t bs moved grid hot is)
+          ∙ ap (λ l. tally_of Fed edges (chunk_of cut) need l moved) (append_assoc bs (rows_from j (i - j) j) (place_at i j ∷ []) ∙ ap (λ l. bs ++ l) (sym more));
+      taken = λ edges t grid hot.
           let here = on_grid_same edges cut table _ _ kept.reads.contents grid in
-          rose_then _ _ _ (bytes_of edges (chunk_of cut) (rows_from j (i - j) j)) (12 * length (block edges (chunk_of cut) i j)) _
-          (ap (bytes_of edges (chunk_of cut)) more ∙ bytes_more edges (chunk_of cut) (rows_from j (i - j) j) (place_at i j)) (kept.taken edges grid) (next.taken edges here);
+          let need = needs_by p edges cut false t in
+          let needed = need_alone c.needed_fed-hot.result (is_hot p edges cut.vertices cut.parts t i) (c.needed_fed-hot.ensures ∙ hot i row) in
+          rose_then _ _ _ (bytes_of edges (chunk_of cut) need (rows_from j (i - j) j)) (bytes_of edges (chunk_of cut) need (place_at i j ∷ [])) _
+          (ap (bytes_of edges (chunk_of cut) need) more ∙ bytes_both edges (chunk_of cut) need (rows_from j (i - j) j) (place_at i j ∷ [])) (kept.taken edges t grid hot) (next.taken edges need here needed);
     }
 
 pub returns-clause-fed : goal.returns-clause-fed
-returns-clause-fed g c edges state grid values sums =
+returns-clause-fed g c edges t grid holds hot sums =
     let cut = c.args.layout.now.parts in
     let inside : c.args.j < cut.parts = c.requires.column in
     let all : c.loop-i.i ≡ cut.parts = omega (arith, inside, c.loop-i.auto.i-end, c.loop-i-test.false, c.parts-i-end.ensures.value) in
-    fed_as (g.G.VertexProgram.model c.args.program.now) edges cut c.args.j _ _ state c.loop-i.sums all (c.loop-i.invariant.fed edges state grid values sums)
+    let p = g.G.VertexProgram.model c.args.program.now in
+    fed_as p edges cut c.args.j _ _ (values p edges t) c.loop-i.sums all (c.loop-i.invariant.fed edges t grid holds hot sums)
 
 pub returns-clause-counted : goal.returns-clause-counted
-returns-clause-counted g c edges bs moved grid is =
+returns-clause-counted g c edges t bs moved grid hot is =
+    let need = needs_by (g.G.VertexProgram.model c.args.program.now) edges c.args.layout.now.parts false t in
     let cut = c.args.layout.now.parts in
     let inside : c.args.j < cut.parts = c.requires.column in
     let all : c.loop-i.i ≡ cut.parts = omega (arith, inside, c.loop-i.auto.i-end, c.loop-i-test.false, c.parts-i-end.ensures.value) in
-    c.loop-i.invariant.counted edges bs moved grid is ∙ ap (λ (n : ℕ). tally_of Fed edges (chunk_of cut) (bs ++ rows_from c.args.j (n - c.args.j) c.args.j) moved) all
+    c.loop-i.invariant.counted edges t bs moved grid hot is ∙ ap (λ (n : ℕ). tally_of Fed edges (chunk_of cut) need (bs ++ rows_from c.args.j (n - c.args.j) c.args.j) moved) all
 
 pub returns-clause-taken : goal.returns-clause-taken
-returns-clause-taken g c edges grid low =
+returns-clause-taken g c edges t grid hot low =
+    let need = needs_by (g.G.VertexProgram.model c.args.program.now) edges c.args.layout.now.parts false t in
     let cut = c.args.layout.now.parts in
     let inside : c.args.j < cut.parts = c.requires.column in
     let all : c.loop-i.i ≡ cut.parts = omega (arith, inside, c.loop-i.auto.i-end, c.loop-i-test.false, c.parts-i-end.ensures.value) in
-    c.loop-i.invariant.taken edges grid low ∙ ap (λ (n : ℕ). g.D.Depot.taken c.args.depot.now Secondary + bytes_of edges (chunk_of cut) (rows_from c.args.j (n - c.args.j) c.args.j)) all
+    c.loop-i.invariant.taken edges t grid hot low ∙ ap (λ (n : ℕ). g.D.Depot.taken c.args.depot.now Secondary + bytes_of edges (chunk_of cut) need (rows_from c.args.j (n - c.args.j) c.args.j)) all

@@ -1,16 +1,21 @@
-use Rattle.std.proofs.Common.{◌≡◌, ℕ, ◌+◌, ◌-◌, ◌≤◌, ◌++◌, false, length, take, drop, refl, sym, ap, ◌∙◌, subst, arith}
+use Rattle.std.proofs.Common.{◌≡◌, ℕ, suc, ◌+◌, ◌-◌, ◌<◌, ◌≤◌, ◌++◌, false, length, take, drop, refl, sym, ap, ◌∙◌, subst, arith}
 use Rattle.std.proofs.lemmas.List.{length-take, length-drop}
+use Rattle.active_sets.specs.Active.{ActiveState}
 use Rattle.lumos_depot.specs.declared.depot.FileKind.TheVariants.{Secondary}
 use Rattle.std.proofs.lemmas.Slice.{drop-put_mid}
-use Rattle.lumos_law.specs.Sync.{values}
+use Rattle.lumos_law.specs.Sync.{values, IsChunk}
+use Rattle.lumos_law.proofs.ChunkLemmas.{chunk_part}
 use Rattle.lumos_report.specs.declared.records.Kind.TheVariants.{Fed}
 use Rattle.partition.specs.Parts.{chunk_of, first_vertex, part_length}
 use Rattle.partition.specs.declared.records.VertexRange.{VertexRange}
 use Rattle.io_account.specs.declared.Counts.{Counts}
-use Rattle.early_engine.specs.Passes.{bytes_of, places, places_below, tally_of}
-use Rattle.early_engine.specs.Steps.{IsMadeBelow, blocks_in}
-use Rattle.early_engine.proofs.FeedLemmas.{early_part}
+use Rattle.early_engine.specs.Early.{early_sum}
+use Rattle.early_engine.specs.Passes.{bytes_of, is_hot, places, places_below, tally_of}
+use Rattle.early_engine.specs.Steps.{AreHot, IsMadeBelow, blocks_in, needs_by}
+use Rattle.early_engine.proofs.FeedLemmas.{early_given}
 use Rattle.early_engine.proofs.GridLemmas.{blocks_same, on_grid_same}
+use Rattle.early_engine.proofs.FlagLemmas.{marked}
+use Rattle.early_engine.proofs.HotLemmas.{hot_still}
 use Rattle.early_engine.proofs.MadeLemmas.{column_chunk, made_all, made_none}
 use Rattle.early_engine.proofs.Moving.{reads_none, reads_then, rose_then}
 use Rattle.early_engine.proofs.PassLemmas.{below_more, bytes_both, tally_moved}
@@ -25,10 +30,13 @@ loop-j-init g c =
       reads = reads_none g.D.Depot.holds g.D.Depot.taken g.D.Depot.stored g.D.Depot.faults g.D.Depot.attached Secondary c.args.depot.now;
       few = omega (arith, ap blocks_in c.zero-counts.ensures);
       moved = omega (arith, none);
-      made = λ edges t grid holds sums. made_none p edges cut t c.args.after.now c.zero-counts.result.moved none;
+      active_fits = refl;
+      was_hot = refl;
+      made = λ edges t grid holds hot sums. made_none p edges cut t c.args.after.now c.zero-counts.result.moved none;
+      hot = λ edges t grid holds hot sums i below. absurd (omega arith);
       rest = λ k low. refl;
-      counted = λ edges grid. c.zero-counts.ensures ∙ ap (tally_of Fed edges (chunk_of cut) (places_below Fed cut.parts 0)) (sym none);
-      taken = λ edges grid low. omega arith;
+      counted = λ edges t grid hot. c.zero-counts.ensures ∙ ap (tally_of Fed edges (chunk_of cut) (needs_by p edges cut false t) (places_below Fed cut.parts 0)) (sym none);
+      taken = λ edges t grid hot low. omega arith;
     }
 
 pub feed_rest-requires-clause-inside : goal.feed_rest-requires-clause-inside
@@ -69,49 +77,73 @@ loop-j-preserved g c =
     let early_long : length c.loop-j.early ≡ n = c.loop-j.auto.early ∙ c.requires.early_fits in
     let piece : length (take (past - first) (drop first c.loop-j.early)) ≡ part_length n (chunk_of cut) j = simp (length-take, length-drop) (omega (arith, first_is, past_is, ordered, inside, early_long)) in
     let sums_long : length c.feed_rest.new.sums ≡ part_length n (chunk_of cut) j = c.feed_rest.auto.sums ∙ piece in
+    let row : j < cut.parts = omega (arith, c.loop-j.auto.j-end, c.loop-j-test.true, c.parts-j-end.ensures.value) in
     let added = c.add_moved.ensures in
-    let moves : c.add_moved.new.self.moved ≡ c.loop-j.counts.moved + c.in-Ok-make_part.moved = ap (λ (k : Counts). k.moved) added ∙ ap (λ (m : ℕ). m + c.in-Ok-make_part.moved) next.moved in
+    let moves : c.add_moved.new.self.moved ≡ c.loop-j.counts.moved + c.in-Ok-make_part.end.moved = ap (λ (k : Counts). k.moved) added ∙ ap (λ (m : ℕ). m + c.in-Ok-make_part.end.moved) next.moved in
     record {
       reads = reads_then g.D.Depot.holds g.D.Depot.taken g.D.Depot.stored g.D.Depot.faults g.D.Depot.attached Secondary _ _ _ kept.reads next.reads;
       few = omega (arith, ap blocks_in added, next.few, kept.few);
       moved = omega (arith, moves, kept.moved, c.in-Ok-make_part.ensures.few, first_is, past_is, ordered);
-      made = λ edges t grid holds early.
+      active_fits = ap (λ (s : ActiveState). s.parts) c.mark.ensures.set ∙ kept.active_fits;
+      was_hot = ap (λ (s : ActiveState). s.was_hot) c.mark.ensures.set ∙ kept.was_hot;
+      made = λ edges t grid holds hot early.
           let old = values p edges t in
           let here = on_grid_same edges cut table _ _ kept.reads.contents grid in
-          let fed = next.fed edges old here holds (early_part p edges cut j old c.args.early.now c.loop-j.early first (past - first) grid.limits.some_parts first_is (kept.rest first (omega (arith, first_is))) piece early) in
+          let sum = early_sum p edges (chunk_of cut) old in
+          let begins = chunk_part sum 0 c.args.early.now first (past - first) (first_vertex n (chunk_of cut) j) (sym first_is ∙ omega arith) early in
+          let stand = subst (λ es. IsChunk sum (first_vertex n (chunk_of cut) j) (take (past - first) es)) (sym (kept.rest first (omega (arith, first_is)))) begins in
+          let given = early_given p edges cut j old (take (past - first) (drop first c.loop-j.early)) grid.limits.some_parts piece stand in
+          let fed = next.fed edges t here holds (hot_still p edges cut t c.args.active.now.was_hot c.loop-j.active.was_hot kept.was_hot hot) given in
           let sums = column_chunk p laws edges cut table _ j t c.feed_rest.new.sums here sums_long fed in
-          subst (λ (m : ℕ). IsMadeBelow p edges cut (j + 1) t c.make_part.new.after m) (sym moves) (c.in-Ok-make_part.ensures.made edges t c.loop-j.counts.moved holds sums (kept.made edges t grid holds early));
+          subst (λ (m : ℕ). IsMadeBelow p edges cut (j + 1) t c.make_part.new.after m) (sym moves) (c.in-Ok-make_part.ensures.made edges t c.loop-j.counts.moved holds sums (kept.made edges t grid holds hot early));
+      hot = λ edges t grid holds hot early.
+          let old = values p edges t in
+          let here = on_grid_same edges cut table _ _ kept.reads.contents grid in
+          let sum = early_sum p edges (chunk_of cut) old in
+          let begins = chunk_part sum 0 c.args.early.now first (past - first) (first_vertex n (chunk_of cut) j) (sym first_is ∙ omega arith) early in
+          let stand = subst (λ es. IsChunk sum (first_vertex n (chunk_of cut) j) (take (past - first) es)) (sym (kept.rest first (omega (arith, first_is)))) begins in
+          let given = early_given p edges cut j old (take (past - first) (drop first c.loop-j.early)) grid.limits.some_parts piece stand in
+          let fed = next.fed edges t here holds (hot_still p edges cut t c.args.active.now.was_hot c.loop-j.active.was_hot kept.was_hot hot) given in
+          let sums = column_chunk p laws edges cut table _ j t c.feed_rest.new.sums here sums_long fed in
+          let more = marked c.loop-j.active.is_hot (is_hot p edges cut.vertices cut.parts (suc t)) j c.in-Ok-make_part.end.hot (omega (arith, c.mark.ensures.room, row, grid.limits.few_parts)) (c.in-Ok-make_part.ensures.hot edges t holds sums) (kept.hot edges t grid holds hot early) in
+          subst (λ (s : ActiveState). AreHot p edges cut (j + 1) (suc t) s.is_hot) (sym c.mark.ensures.set) more;
       rest = λ k low.
           drop-put_mid first (past - first) c.loop-j.early c.feed_rest.new.sums k (omega (arith, past_is, low, ordered)) (omega (arith, early_long, ordered, inside)) (sums_long ∙ omega (arith, first_is, past_is))
           ∙ kept.rest k (omega (arith, first_is, past_is, ordered, low));
-      counted = λ edges grid.
+      counted = λ edges t grid hot.
           let here = on_grid_same edges cut table _ _ kept.reads.contents grid in
-          added ∙ ap (λ (k : Counts). record k { moved = k.moved + c.in-Ok-make_part.moved }) (next.counted edges (places_below Fed cut.parts j) c.loop-j.counts.moved here (kept.counted edges grid))
-          ∙ tally_moved edges (chunk_of cut) Fed (places_below Fed cut.parts j ++ places Fed cut.parts j) c.loop-j.counts.moved c.in-Ok-make_part.moved
-          ∙ ap (λ bs. tally_of Fed edges (chunk_of cut) bs (c.loop-j.counts.moved + c.in-Ok-make_part.moved)) (sym (below_more Fed cut.parts j))
-          ∙ ap (tally_of Fed edges (chunk_of cut) (places_below Fed cut.parts (j + 1))) (sym moves);
-      taken = λ edges grid.
+          let need = needs_by p edges cut false t in
+          let more = c.in-Ok-make_part.end.moved in
+          added ∙ ap (λ (k : Counts). record k { moved = k.moved + more })
+          (next.counted edges t (places_below Fed cut.parts j) c.loop-j.counts.moved here (hot_still p edges cut t c.args.active.now.was_hot c.loop-j.active.was_hot kept.was_hot hot) (kept.counted edges t grid hot))
+          ∙ tally_moved edges (chunk_of cut) need Fed (places_below Fed cut.parts j ++ places Fed cut.parts j) c.loop-j.counts.moved more
+          ∙ ap (λ bs. tally_of Fed edges (chunk_of cut) need bs (c.loop-j.counts.moved + more)) (sym (below_more Fed cut.parts j))
+          ∙ ap (tally_of Fed edges (chunk_of cut) need (places_below Fed cut.parts (j + 1))) (sym moves);
+      taken = λ edges t grid hot.
           let here = on_grid_same edges cut table _ _ kept.reads.contents grid in
-          rose_then _ _ _ (bytes_of edges (chunk_of cut) (places_below Fed cut.parts j)) (bytes_of edges (chunk_of cut) (places Fed cut.parts j)) _
-          (ap (bytes_of edges (chunk_of cut)) (below_more Fed cut.parts j) ∙ bytes_both edges (chunk_of cut) (places_below Fed cut.parts j) (places Fed cut.parts j)) (kept.taken edges grid) (next.taken edges here);
+          let need = needs_by p edges cut false t in
+          rose_then _ _ _ (bytes_of edges (chunk_of cut) need (places_below Fed cut.parts j)) (bytes_of edges (chunk_of cut) need (places Fed cut.parts j)) _
+          (ap (bytes_of edges (chunk_of cut) need) (below_more Fed cut.parts j) ∙ bytes_both edges (chunk_of cut) need (places_below Fed cut.parts j) (places Fed cut.parts j)) (kept.taken edges t grid hot)
+          (next.taken edges t here (hot_still p edges cut t c.args.active.now.was_hot c.loop-j.active.was_hot kept.was_hot hot));
     }
 
 pub returns-clause-made : goal.returns-clause-made
-returns-clause-made g c edges t grid holds early =
+returns-clause-made g c edges t grid holds hot early =
     let p = g.G.VertexProgram.model c.args.program.now in
     let cut = c.args.layout.now.parts in
     let all : c.loop-j.j ≡ cut.parts = omega (arith, c.loop-j.auto.j-end, c.loop-j-test.false, c.parts-j-end.ensures.value) in
-    made_all p edges cut Fed false c.loop-j.j t c.loop-j.after c.loop-j.early c.loop-j.counts grid.limits.some_parts all (c.loop-j.auto.after ∙ c.requires.after_fits)
-    (c.loop-j.invariant.made edges t grid holds early) (c.loop-j.invariant.counted edges grid) (λ on. absurd (cc))
+    made_all p edges cut Fed false c.loop-j.j t c.loop-j.after c.loop-j.early c.loop-j.active.is_hot c.loop-j.counts grid.limits.some_parts all (c.loop-j.auto.after ∙ c.requires.after_fits)
+    (c.loop-j.invariant.made edges t grid holds hot early) (c.loop-j.invariant.hot edges t grid holds hot early) (c.loop-j.invariant.counted edges t grid hot) (λ on. absurd (cc))
 
 pub returns-clause-taken : goal.returns-clause-taken
-returns-clause-taken g c edges grid low =
+returns-clause-taken g c edges t grid holds hot early low =
+    let need = needs_by (g.G.VertexProgram.model c.args.program.now) edges c.args.layout.now.parts false t in
     let cut = c.args.layout.now.parts in
     let all : c.loop-j.j ≡ cut.parts = omega (arith, c.loop-j.auto.j-end, c.loop-j-test.false, c.parts-j-end.ensures.value) in
-    c.loop-j.invariant.taken edges grid low ∙ ap (λ (k : ℕ). g.D.Depot.taken c.args.depot.now Secondary + bytes_of edges (chunk_of cut) (places_below Fed cut.parts k)) all
+    c.loop-j.invariant.taken edges t grid hot low ∙ ap (λ (k : ℕ). g.D.Depot.taken c.args.depot.now Secondary + bytes_of edges (chunk_of cut) need (places_below Fed cut.parts k)) all
 
 pub returns-in-Err-make_part-clause-made : goal.returns-in-Err-make_part-clause-made
-returns-in-Err-make_part-clause-made g c edges t grid holds early =
+returns-in-Err-make_part-clause-made g c edges t grid holds hot early =
     let p = g.G.VertexProgram.model c.args.program.now in
     let laws = g.met.G.VertexProgram.lawful c.args.program.now in
     let cut = c.args.layout.now.parts in
@@ -128,9 +160,13 @@ returns-in-Err-make_part-clause-made g c edges t grid holds early =
     simp (length-take, length-drop) (omega (arith, first_is, past_is, c.range_of-range.ensures.ordered, c.range_of-range.ensures.inside, early_long)) in
     let old = values p edges t in
     let here = on_grid_same edges cut table _ _ kept.reads.contents grid in
-    let fed = c.in-Ok.ensures.fed edges old here holds (early_part p edges cut j old c.args.early.now c.loop-j.early first (past - first) grid.limits.some_parts first_is (kept.rest first (omega (arith, first_is))) piece early) in
+    let sum = early_sum p edges (chunk_of cut) old in
+    let begins = chunk_part sum 0 c.args.early.now first (past - first) (first_vertex n (chunk_of cut) j) (sym first_is ∙ omega arith) early in
+    let stand = subst (λ es. IsChunk sum (first_vertex n (chunk_of cut) j) (take (past - first) es)) (sym (kept.rest first (omega (arith, first_is)))) begins in
+    let given = early_given p edges cut j old (take (past - first) (drop first c.loop-j.early)) grid.limits.some_parts piece stand in
+    let fed = c.in-Ok.ensures.fed edges t here holds (hot_still p edges cut t c.args.active.now.was_hot c.loop-j.active.was_hot kept.was_hot hot) given in
     let sums = column_chunk p laws edges cut table _ j t c.feed_rest.new.sums here (c.feed_rest.auto.sums ∙ piece) fed in
-    c.in-Err-make_part.ensures.made edges t c.loop-j.counts.moved holds sums (kept.made edges t grid holds early)
+    c.in-Err-make_part.ensures.made edges t c.loop-j.counts.moved holds sums (kept.made edges t grid holds hot early)
 
 pub returns-in-Err-make_part-clause-reads : goal.returns-in-Err-make_part-clause-reads
 returns-in-Err-make_part-clause-reads g c =

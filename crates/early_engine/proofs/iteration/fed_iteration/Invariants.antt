@@ -1,4 +1,4 @@
-use Rattle.std.proofs.Common.{◌≡◌, ◌≤◌, ◌*◌, drop, ℕ, List}
+use Rattle.std.proofs.Common.{◌≡◌, ◌≤◌, ◌*◌, suc, false, drop, ℕ, List}
 use Rattle.lumos_base.specs.declared.records.Edge.{Edge}
 use Rattle.lumos_depot.specs.declared.depot.FileKind.TheVariants.{Secondary}
 use Rattle.lumos_law.specs.Sync.{values, IsChunk}
@@ -8,7 +8,7 @@ use Rattle.value_files.specs.Outside.{Reads, RoseBy}
 use Rattle.early_engine.specs.Early.{early_sum}
 use Rattle.early_engine.specs.Grids.{IsOnGrid}
 use Rattle.early_engine.specs.Passes.{bytes_of, places_below, tally_of}
-use Rattle.early_engine.specs.Steps.{IsMadeBelow, blocks_in}
+use Rattle.early_engine.specs.Steps.{AreHot, IsMadeBelow, blocks_in, needs_by}
 use Rattle.early_engine.proofs.iteration.fed_iteration.Given as goal
 
 abbrev pub invariant-loop-j : goal.invariant-loop-j
@@ -19,11 +19,15 @@ invariant-loop-j g l =
       reads : Reads g.D.Depot.holds g.D.Depot.taken g.D.Depot.stored g.D.Depot.faults g.D.Depot.attached Secondary l.fn.depot l.depot;
       few : blocks_in l.counts ≤ 256 * l.j;
       moved : l.counts.moved ≤ first_vertex cut.vertices (chunk_of cut) l.j;
-      made : (edges : List Edge) (t : ℕ) → IsOnGrid edges cut l.layout.table (g.D.Depot.holds l.fn.depot) → IsChunk (values p edges t) 0 l.before
+      active_fits : l.active.parts ≡ l.fn.active.parts;
+      was_hot : l.active.was_hot ≡ l.fn.active.was_hot;
+      made : (edges : List Edge) (t : ℕ) → IsOnGrid edges cut l.layout.table (g.D.Depot.holds l.fn.depot) → IsChunk (values p edges t) 0 l.before → AreHot p edges cut cut.parts t l.fn.active.was_hot
           → IsChunk (early_sum p edges (chunk_of cut) (values p edges t)) 0 l.fn.early → IsMadeBelow p edges cut l.j t l.after l.counts.moved;
+      hot : (edges : List Edge) (t : ℕ) → IsOnGrid edges cut l.layout.table (g.D.Depot.holds l.fn.depot) → IsChunk (values p edges t) 0 l.before → AreHot p edges cut cut.parts t l.fn.active.was_hot
+          → IsChunk (early_sum p edges (chunk_of cut) (values p edges t)) 0 l.fn.early → AreHot p edges cut l.j (suc t) l.active.is_hot;
       rest : (k : ℕ) → first_vertex cut.vertices (chunk_of cut) l.j ≤ k → drop k l.early ≡ drop k l.fn.early;
-      counted : (edges : List Edge) → IsOnGrid edges cut l.layout.table (g.D.Depot.holds l.fn.depot)
-          → l.counts ≡ tally_of Fed edges (chunk_of cut) (places_below Fed cut.parts l.j) l.counts.moved;
-      taken : (edges : List Edge) → IsOnGrid edges cut l.layout.table (g.D.Depot.holds l.fn.depot)
-          → RoseBy (g.D.Depot.taken l.fn.depot Secondary) (g.D.Depot.taken l.depot Secondary) (bytes_of edges (chunk_of cut) (places_below Fed cut.parts l.j));
+      counted : (edges : List Edge) (t : ℕ) → IsOnGrid edges cut l.layout.table (g.D.Depot.holds l.fn.depot) → AreHot p edges cut cut.parts t l.fn.active.was_hot
+          → l.counts ≡ tally_of Fed edges (chunk_of cut) (needs_by p edges cut false t) (places_below Fed cut.parts l.j) l.counts.moved;
+      taken : (edges : List Edge) (t : ℕ) → IsOnGrid edges cut l.layout.table (g.D.Depot.holds l.fn.depot) → AreHot p edges cut cut.parts t l.fn.active.was_hot
+          → RoseBy (g.D.Depot.taken l.fn.depot Secondary) (g.D.Depot.taken l.depot Secondary) (bytes_of edges (chunk_of cut) (needs_by p edges cut false t) (places_below Fed cut.parts l.j));
     }

@@ -1,5 +1,6 @@
-use Rattle.std.proofs.Common.{◌≡◌, ℕ, suc, ◌+◌, ◌-◌, ◌≤◌, ◌++◌, length, take, sym, ap, ◌∙◌, subst, arith}
+use Rattle.std.proofs.Common.{◌≡◌, ℕ, suc, ◌+◌, ◌-◌, ◌<◌, ◌≤◌, ◌++◌, length, take, refl, sym, ap, ◌∙◌, subst, arith}
 use Rattle.std.proofs.lemmas.List.{length-take, length-drop, take_all}
+use Rattle.active_sets.specs.Active.{ActiveState}
 use Rattle.lumos_depot.specs.declared.depot.FileKind.TheVariants.{Primary}
 use Rattle.lumos_law.specs.Sync.{values, IsChunk}
 use Rattle.lumos_report.specs.declared.records.Kind.TheVariants.{Full}
@@ -7,10 +8,12 @@ use Rattle.partition.specs.Parts.{chunk_of, first_vertex, part_length}
 use Rattle.partition.specs.declared.records.VertexRange.{VertexRange}
 use Rattle.io_account.specs.declared.Counts.{Counts}
 use Rattle.early_engine.specs.Early.{early_sum}
-use Rattle.early_engine.specs.Passes.{bytes_of, places, places_below, tally_of}
-use Rattle.early_engine.specs.Steps.{IsMadeBelow, blocks_in}
+use Rattle.early_engine.specs.Passes.{bytes_of, is_hot, places, places_below, tally_of}
+use Rattle.early_engine.specs.Steps.{AreHot, IsMadeBelow, blocks_in, needs_by}
 use Rattle.early_engine.proofs.FeedLemmas.{early_made}
 use Rattle.early_engine.proofs.GridLemmas.{blocks_same, on_grid_same}
+use Rattle.early_engine.proofs.FlagLemmas.{marked}
+use Rattle.early_engine.proofs.HotLemmas.{ready_at}
 use Rattle.early_engine.proofs.MadeLemmas.{all_parts, chunk_put, column_chunk, made_all, made_none}
 use Rattle.early_engine.proofs.Moving.{reads_none, reads_then, rose_then}
 use Rattle.early_engine.proofs.PassLemmas.{below_more, bytes_both, tally_moved}
@@ -26,10 +29,13 @@ loop-j-init g c =
       reads = reads_none g.D.Depot.holds g.D.Depot.taken g.D.Depot.stored g.D.Depot.faults g.D.Depot.attached Primary c.args.depot.now;
       few = omega (arith, ap blocks_in c.zero-counts.ensures);
       moved = omega (arith, none);
-      made = λ edges t grid holds. made_none p edges cut t c.args.after.now c.zero-counts.result.moved none;
-      early = λ edges t grid holds on. subst (λ (k : ℕ). IsChunk (early_sum p edges (chunk_of cut) (values p edges (suc t))) 0 (take k c.args.early.now)) (sym first) (record { at = λ d k below. absurd (omega arith) });
-      counted = λ edges grid. c.zero-counts.ensures ∙ ap (tally_of Full edges (chunk_of cut) (places_below Full cut.parts 0)) (sym none);
-      taken = λ edges grid low. omega arith;
+      active_fits = refl;
+      was_hot = refl;
+      made = λ edges t grid holds hot. made_none p edges cut t c.args.after.now c.zero-counts.result.moved none;
+      hot = λ edges t grid holds hot i below. absurd (omega arith);
+      early = λ edges t grid holds hot on. subst (λ (k : ℕ). IsChunk (early_sum p edges (chunk_of cut) (values p edges (suc t))) 0 (take k c.args.early.now)) (sym first) (record { at = λ d k below. absurd (omega arith) });
+      counted = λ edges t grid holds hot. c.zero-counts.ensures ∙ ap (tally_of Full edges (chunk_of cut) (needs_by p edges cut c.args.ahead t) (places_below Full cut.parts 0)) (sym none);
+      taken = λ edges t grid holds hot low. omega arith;
     }
 
 pub feed_full-requires-clause-inside : goal.feed_full-requires-clause-inside
@@ -77,52 +83,69 @@ loop-j-preserved g c =
     c.feed_full.auto.sums ∙ simp length-take (omega (arith, first_is, past_is, c.loop-j.auto.sums, c.requires.sums_fit, c.range_of-range.ensures.short)) in
     let early_long : length c.feed_full.new.early ≡ part_length n (chunk_of cut) j =
     c.feed_full.auto.early ∙ simp (length-take, length-drop) (omega (arith, first_is, past_is, ordered, inside, c.loop-j.auto.early, c.requires.early_fits)) in
+    let row : j < cut.parts = omega (arith, c.loop-j.auto.j-end, c.loop-j-test.true, c.parts-j-end.ensures.value) in
     let added = c.add_moved.ensures in
-    let moves : c.add_moved.new.self.moved ≡ c.loop-j.counts.moved + c.in-Ok-make_part.moved = ap (λ (k : Counts). k.moved) added ∙ ap (λ (m : ℕ). m + c.in-Ok-make_part.moved) next.moved in
+    let moves : c.add_moved.new.self.moved ≡ c.loop-j.counts.moved + c.in-Ok-make_part.end.moved = ap (λ (k : Counts). k.moved) added ∙ ap (λ (m : ℕ). m + c.in-Ok-make_part.end.moved) next.moved in
     record {
       reads = reads_then g.D.Depot.holds g.D.Depot.taken g.D.Depot.stored g.D.Depot.faults g.D.Depot.attached Primary _ _ _ kept.reads next.reads;
       few = omega (arith, ap blocks_in added, next.few, kept.few);
       moved = omega (arith, moves, kept.moved, c.in-Ok-make_part.ensures.few, first_is, past_is, ordered);
-      made = λ edges t grid holds.
+      active_fits = ap (λ (s : ActiveState). s.parts) c.mark.ensures.set ∙ kept.active_fits;
+      was_hot = ap (λ (s : ActiveState). s.was_hot) c.mark.ensures.set ∙ kept.was_hot;
+      made = λ edges t grid holds hot.
           let here = on_grid_same edges cut table _ _ kept.reads.contents grid in
-          let sums = column_chunk p laws edges cut table _ j t c.feed_full.new.sums here sums_long (next.fed edges (values p edges t) here holds) in
-          subst (λ (m : ℕ). IsMadeBelow p edges cut (j + 1) t c.make_part.new.after m) (sym moves) (c.in-Ok-make_part.ensures.made edges t c.loop-j.counts.moved holds sums (kept.made edges t grid holds));
-      early = λ edges t grid holds on.
+          let ready = ready_at p edges cut j t c.args.before.now c.loop-j.after c.args.active.now.was_hot c.loop-j.active.was_hot c.loop-j.active.is_hot kept.was_hot holds (kept.made edges t grid holds hot).chunk hot (kept.hot edges t grid holds hot) in
+          let sums = column_chunk p laws edges cut table _ j t c.feed_full.new.sums here sums_long (next.fed edges t here ready) in
+          subst (λ (m : ℕ). IsMadeBelow p edges cut (j + 1) t c.make_part.new.after m) (sym moves) (c.in-Ok-make_part.ensures.made edges t c.loop-j.counts.moved holds sums (kept.made edges t grid holds hot));
+      hot = λ edges t grid holds hot.
           let here = on_grid_same edges cut table _ _ kept.reads.contents grid in
-          let fed = next.ahead edges (values p edges (suc t)) here on (kept.made edges t grid holds).chunk in
+          let ready = ready_at p edges cut j t c.args.before.now c.loop-j.after c.args.active.now.was_hot c.loop-j.active.was_hot c.loop-j.active.is_hot kept.was_hot holds (kept.made edges t grid holds hot).chunk hot (kept.hot edges t grid holds hot) in
+          let sums = column_chunk p laws edges cut table _ j t c.feed_full.new.sums here sums_long (next.fed edges t here ready) in
+          let more = marked c.loop-j.active.is_hot (is_hot p edges cut.vertices cut.parts (suc t)) j c.in-Ok-make_part.end.hot (omega (arith, c.mark.ensures.room, row, grid.limits.few_parts)) (c.in-Ok-make_part.ensures.hot edges t holds sums) (kept.hot edges t grid holds hot) in
+          subst (λ (s : ActiveState). AreHot p edges cut (j + 1) (suc t) s.is_hot) (sym c.mark.ensures.set) more;
+      early = λ edges t grid holds hot on.
+          let here = on_grid_same edges cut table _ _ kept.reads.contents grid in
+          let ready = ready_at p edges cut j t c.args.before.now c.loop-j.after c.args.active.now.was_hot c.loop-j.active.was_hot c.loop-j.active.is_hot kept.was_hot holds (kept.made edges t grid holds hot).chunk hot (kept.hot edges t grid holds hot) in
+          let fed = next.ahead edges t here ready on in
           let part = early_made p edges cut j (values p edges (suc t)) c.feed_full.new.early grid.limits.some_parts early_long fed in
           chunk_put (early_sum p edges (chunk_of cut) (values p edges (suc t))) c.loop-j.early c.feed_full.new.early first (past - first) (first_vertex n (chunk_of cut) j) (first_vertex n (chunk_of cut) (j + 1)) first_is
-          (omega (arith, early_long, first_is, past_is, ordered)) (omega (arith, c.loop-j.auto.early, c.requires.early_fits, ordered, inside)) (kept.early edges t grid holds on) part;
-      counted = λ edges grid.
+          (omega (arith, early_long, first_is, past_is, ordered)) (omega (arith, c.loop-j.auto.early, c.requires.early_fits, ordered, inside)) (kept.early edges t grid holds hot on) part;
+      counted = λ edges t grid holds hot.
           let here = on_grid_same edges cut table _ _ kept.reads.contents grid in
-          added ∙ ap (λ (k : Counts). record k { moved = k.moved + c.in-Ok-make_part.moved }) (next.counted edges (places_below Full cut.parts j) c.loop-j.counts.moved here (kept.counted edges grid))
-          ∙ tally_moved edges (chunk_of cut) Full (places_below Full cut.parts j ++ places Full cut.parts j) c.loop-j.counts.moved c.in-Ok-make_part.moved
-          ∙ ap (λ bs. tally_of Full edges (chunk_of cut) bs (c.loop-j.counts.moved + c.in-Ok-make_part.moved)) (sym (below_more Full cut.parts j))
-          ∙ ap (tally_of Full edges (chunk_of cut) (places_below Full cut.parts (j + 1))) (sym moves);
-      taken = λ edges grid.
+          let ready = ready_at p edges cut j t c.args.before.now c.loop-j.after c.args.active.now.was_hot c.loop-j.active.was_hot c.loop-j.active.is_hot kept.was_hot holds (kept.made edges t grid holds hot).chunk hot (kept.hot edges t grid holds hot) in
+          let need = needs_by p edges cut c.args.ahead t in
+          let more = c.in-Ok-make_part.end.moved in
+          added ∙ ap (λ (k : Counts). record k { moved = k.moved + more }) (next.counted edges t (places_below Full cut.parts j) c.loop-j.counts.moved here ready (kept.counted edges t grid holds hot))
+          ∙ tally_moved edges (chunk_of cut) need Full (places_below Full cut.parts j ++ places Full cut.parts j) c.loop-j.counts.moved more
+          ∙ ap (λ bs. tally_of Full edges (chunk_of cut) need bs (c.loop-j.counts.moved + more)) (sym (below_more Full cut.parts j))
+          ∙ ap (tally_of Full edges (chunk_of cut) need (places_below Full cut.parts (j + 1))) (sym moves);
+      taken = λ edges t grid holds hot.
           let here = on_grid_same edges cut table _ _ kept.reads.contents grid in
-          rose_then _ _ _ (bytes_of edges (chunk_of cut) (places_below Full cut.parts j)) (bytes_of edges (chunk_of cut) (places Full cut.parts j)) _
-          (ap (bytes_of edges (chunk_of cut)) (below_more Full cut.parts j) ∙ bytes_both edges (chunk_of cut) (places_below Full cut.parts j) (places Full cut.parts j)) (kept.taken edges grid) (next.taken edges here);
+          let ready = ready_at p edges cut j t c.args.before.now c.loop-j.after c.args.active.now.was_hot c.loop-j.active.was_hot c.loop-j.active.is_hot kept.was_hot holds (kept.made edges t grid holds hot).chunk hot (kept.hot edges t grid holds hot) in
+          let need = needs_by p edges cut c.args.ahead t in
+          rose_then _ _ _ (bytes_of edges (chunk_of cut) need (places_below Full cut.parts j)) (bytes_of edges (chunk_of cut) need (places Full cut.parts j)) _
+          (ap (bytes_of edges (chunk_of cut) need) (below_more Full cut.parts j) ∙ bytes_both edges (chunk_of cut) need (places_below Full cut.parts j) (places Full cut.parts j)) (kept.taken edges t grid holds hot) (next.taken edges t here ready);
     }
 
 pub returns-clause-made : goal.returns-clause-made
-returns-clause-made g c edges t grid holds =
+returns-clause-made g c edges t grid holds hot =
     let p = g.G.VertexProgram.model c.args.program.now in
     let cut = c.args.layout.now.parts in
     let all : c.loop-j.j ≡ cut.parts = omega (arith, c.loop-j.auto.j-end, c.loop-j-test.false, c.parts-j-end.ensures.value) in
     let whole = all_parts cut c.loop-j.j grid.limits.some_parts all in
-    made_all p edges cut Full c.args.ahead c.loop-j.j t c.loop-j.after c.loop-j.early c.loop-j.counts grid.limits.some_parts all (c.loop-j.auto.after ∙ c.requires.after_fits)
-    (c.loop-j.invariant.made edges t grid holds) (c.loop-j.invariant.counted edges grid)
-    (λ on. subst (IsChunk (early_sum p edges (chunk_of cut) (values p edges (suc t))) 0) (take_all (first_vertex cut.vertices (chunk_of cut) c.loop-j.j) c.loop-j.early (omega (arith, whole, c.loop-j.auto.early, c.requires.early_fits))) (c.loop-j.invariant.early edges t grid holds on))
+    made_all p edges cut Full c.args.ahead c.loop-j.j t c.loop-j.after c.loop-j.early c.loop-j.active.is_hot c.loop-j.counts grid.limits.some_parts all (c.loop-j.auto.after ∙ c.requires.after_fits)
+    (c.loop-j.invariant.made edges t grid holds hot) (c.loop-j.invariant.hot edges t grid holds hot) (c.loop-j.invariant.counted edges t grid holds hot)
+    (λ on. subst (IsChunk (early_sum p edges (chunk_of cut) (values p edges (suc t))) 0) (take_all (first_vertex cut.vertices (chunk_of cut) c.loop-j.j) c.loop-j.early (omega (arith, whole, c.loop-j.auto.early, c.requires.early_fits))) (c.loop-j.invariant.early edges t grid holds hot on))
 
 pub returns-clause-taken : goal.returns-clause-taken
-returns-clause-taken g c edges grid low =
+returns-clause-taken g c edges t grid holds hot low =
+    let need = needs_by (g.G.VertexProgram.model c.args.program.now) edges c.args.layout.now.parts c.args.ahead t in
     let cut = c.args.layout.now.parts in
     let all : c.loop-j.j ≡ cut.parts = omega (arith, c.loop-j.auto.j-end, c.loop-j-test.false, c.parts-j-end.ensures.value) in
-    c.loop-j.invariant.taken edges grid low ∙ ap (λ (k : ℕ). g.D.Depot.taken c.args.depot.now Primary + bytes_of edges (chunk_of cut) (places_below Full cut.parts k)) all
+    c.loop-j.invariant.taken edges t grid holds hot low ∙ ap (λ (k : ℕ). g.D.Depot.taken c.args.depot.now Primary + bytes_of edges (chunk_of cut) need (places_below Full cut.parts k)) all
 
 pub returns-in-Err-make_part-clause-made : goal.returns-in-Err-make_part-clause-made
-returns-in-Err-make_part-clause-made g c edges t grid holds =
+returns-in-Err-make_part-clause-made g c edges t grid holds hot =
     let p = g.G.VertexProgram.model c.args.program.now in
     let laws = g.met.G.VertexProgram.lawful c.args.program.now in
     let cut = c.args.layout.now.parts in
@@ -134,8 +157,9 @@ returns-in-Err-make_part-clause-made g c edges t grid holds =
     let sums_long : length c.feed_full.new.sums ≡ part_length cut.vertices (chunk_of cut) j =
     c.feed_full.auto.sums ∙ simp length-take (omega (arith, first_is, past_is, c.loop-j.auto.sums, c.requires.sums_fit, c.range_of-range.ensures.short)) in
     let here = on_grid_same edges cut table _ _ kept.reads.contents grid in
-    let sums = column_chunk p laws edges cut table _ j t c.feed_full.new.sums here sums_long (c.in-Ok.ensures.fed edges (values p edges t) here holds) in
-    c.in-Err-make_part.ensures.made edges t c.loop-j.counts.moved holds sums (kept.made edges t grid holds)
+    let ready = ready_at p edges cut j t c.args.before.now c.loop-j.after c.args.active.now.was_hot c.loop-j.active.was_hot c.loop-j.active.is_hot kept.was_hot holds (kept.made edges t grid holds hot).chunk hot (kept.hot edges t grid holds hot) in
+    let sums = column_chunk p laws edges cut table _ j t c.feed_full.new.sums here sums_long (c.in-Ok.ensures.fed edges t here ready) in
+    c.in-Err-make_part.ensures.made edges t c.loop-j.counts.moved holds sums (kept.made edges t grid holds hot)
 
 pub returns-in-Err-make_part-clause-reads : goal.returns-in-Err-make_part-clause-reads
 returns-in-Err-make_part-clause-reads g c =

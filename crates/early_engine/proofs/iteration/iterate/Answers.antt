@@ -1,15 +1,14 @@
 use Rattle.std.proofs.Common.{◌≡◌, suc, false, sym, ap, ◌∙◌, subst, add-one, arith}
-use Rattle.std.specs.Prelude.{OnOk}
 use Rattle.std.proofs.lemmas.List.{take_at}
 use Rattle.lumos_law.specs.Sync.{values, IsChunk}
 use Rattle.lumos_report.specs.declared.records.Kind.{Kind}
 use Rattle.lumos_report.specs.declared.records.Kind.TheVariants.{Full, Fed}
 use Rattle.partition.specs.Parts.{chunk_of}
-use Rattle.value_files.specs.Outside.{Reads, RoseBy}
+use Rattle.value_files.specs.Outside.{Reads}
 use Rattle.early_engine.specs.Early.{early_sum}
-use Rattle.early_engine.specs.Passes.{bytes_of, feeds_ahead, file_of, kind_of, passes}
+use Rattle.early_engine.specs.Passes.{feeds_ahead, file_of, kind_of}
 use Rattle.early_engine.proofs.KindLemmas.{fed_before, fed_not_ahead}
-use Rattle.early_engine.proofs.MadeLemmas.{passed_made}
+use Rattle.early_engine.proofs.MadeLemmas.{passed_made, rose_as}
 use Rattle.early_engine.proofs.iteration.iterate.Goals as goal
 
 pub returns-in-Full-clause-made : goal.returns-in-Full-clause-made
@@ -22,17 +21,22 @@ returns-in-Full-clause-made g c edges done grid at kept =
     let kind_is : Full ≡ kind_of mode (suc done) = sym c.in-Full.is ∙ c.kind_of.ensures ∙ ap (kind_of mode) next in
     let ahead_is : c.feeds_ahead-ahead.result ≡ feeds_ahead mode limit (suc done) = c.feeds_ahead-ahead.ensures ∙ ap (feeds_ahead mode limit) next in
     let before = subst (IsChunk (values p edges done) 0) (sym c.deref.ensures.value) kept.holds in
-    let made = passed_made p edges cut mode limit done Full c.feeds_ahead-ahead.result c.full_iteration.new.after c.full_iteration.new.early c.full_iteration.result kind_is ahead_is (c.full_iteration.ensures.made edges done grid before) in
+    let made = passed_made p edges cut mode limit done Full c.feeds_ahead-ahead.result c.full_iteration.new.after c.full_iteration.new.early c.full_iteration.new.active.is_hot c.full_iteration.result kind_is ahead_is (c.full_iteration.ensures.made edges done grid before kept.active) in
     let put_early = c.full_iteration.auto.early ∙ c.deref_mut-in-Full-2.ensures.len in
     let put_after = c.full_iteration.auto.after ∙ c.deref_mut-in-Full-3.ensures.len in
     rw (take_at c.full_iteration.new.after _ _ put_after) (rw (take_at c.full_iteration.new.early _ _ put_early) made)
 
 pub returns-in-Full-clause-taken : goal.returns-in-Full-clause-taken
-returns-in-Full-clause-taken g c edges grid =
+returns-in-Full-clause-taken g c edges done grid at kept =
+    let p = g.G.VertexProgram.model c.args.program.now in
     let cut = c.args.layout.now.parts in
-    let is : Full ≡ kind_of c.args.options.mode c.args.t = sym c.in-Full.is ∙ c.kind_of.ensures in
-    subst (λ (k : Kind). OnOk c.full_iteration.result (RoseBy (g.D.Depot.taken c.args.depot.now (file_of k)) (g.D.Depot.taken c.full_iteration.new.depot (file_of k)) (bytes_of edges (chunk_of cut) (passes k cut.parts)))) is
-    (c.full_iteration.ensures.taken edges grid)
+    let mode = c.args.options.mode in
+    let limit = c.args.options.iterations in
+    let next : c.args.t ≡ suc done = at ∙ add-one done in
+    let is : Full ≡ kind_of mode c.args.t = sym c.in-Full.is ∙ c.kind_of.ensures in
+    let before = subst (IsChunk (values p edges done) 0) (sym c.deref.ensures.value) kept.holds in
+    rose_as p edges cut mode limit done c.args.t Full c.feeds_ahead-ahead.result (g.D.Depot.taken c.args.depot.now) (g.D.Depot.taken c.full_iteration.new.depot) c.full_iteration.result
+    next is c.feeds_ahead-ahead.ensures (c.full_iteration.ensures.taken edges done grid before kept.active)
 
 pub returns-in-Full-clause-reads : goal.returns-in-Full-clause-reads
 returns-in-Full-clause-reads g c =
@@ -51,17 +55,24 @@ returns-in-Fed-clause-made g c edges done grid at kept =
     let not_ahead = fed_not_ahead mode limit (suc done) (sym kind_is) in
     let before = subst (IsChunk (values p edges done) 0) (sym c.deref-in-Fed.ensures.value) kept.holds in
     let early = subst (IsChunk (early_sum p edges (chunk_of cut) (values p edges done)) 0) (sym c.deref_mut-in-Fed-2.ensures.value) (kept.ahead was_ahead) in
-    let made = passed_made p edges cut mode limit done Fed false c.fed_iteration.new.after c.fed_iteration.new.early c.fed_iteration.result kind_is (sym not_ahead) (c.fed_iteration.ensures.made edges done grid before early) in
+    let made = passed_made p edges cut mode limit done Fed false c.fed_iteration.new.after c.fed_iteration.new.early c.fed_iteration.new.active.is_hot c.fed_iteration.result kind_is (sym not_ahead) (c.fed_iteration.ensures.made edges done grid before kept.active early) in
     let put_early = c.fed_iteration.auto.early ∙ c.deref_mut-in-Fed-2.ensures.len in
     let put_after = c.fed_iteration.auto.after ∙ c.deref_mut-in-Fed-3.ensures.len in
     rw (take_at c.fed_iteration.new.after _ _ put_after) (rw (take_at c.fed_iteration.new.early _ _ put_early) made)
 
 pub returns-in-Fed-clause-taken : goal.returns-in-Fed-clause-taken
-returns-in-Fed-clause-taken g c edges grid =
+returns-in-Fed-clause-taken g c edges done grid at kept =
+    let p = g.G.VertexProgram.model c.args.program.now in
     let cut = c.args.layout.now.parts in
-    let is : Fed ≡ kind_of c.args.options.mode c.args.t = sym c.in-Fed.is ∙ c.kind_of.ensures in
-    subst (λ (k : Kind). OnOk c.fed_iteration.result (RoseBy (g.D.Depot.taken c.args.depot.now (file_of k)) (g.D.Depot.taken c.fed_iteration.new.depot (file_of k)) (bytes_of edges (chunk_of cut) (passes k cut.parts)))) is
-    (c.fed_iteration.ensures.taken edges grid)
+    let mode = c.args.options.mode in
+    let limit = c.args.options.iterations in
+    let next : c.args.t ≡ suc done = at ∙ add-one done in
+    let is : Fed ≡ kind_of mode c.args.t = sym c.in-Fed.is ∙ c.kind_of.ensures in
+    let was_ahead = fed_before mode limit done (sym (is ∙ ap (kind_of mode) next)) (omega (arith, next, c.requires.few)) in
+    let before = subst (IsChunk (values p edges done) 0) (sym c.deref-in-Fed.ensures.value) kept.holds in
+    let early = subst (IsChunk (early_sum p edges (chunk_of cut) (values p edges done)) 0) (sym c.deref_mut-in-Fed-2.ensures.value) (kept.ahead was_ahead) in
+    rose_as p edges cut mode limit done c.args.t Fed false (g.D.Depot.taken c.args.depot.now) (g.D.Depot.taken c.fed_iteration.new.depot) c.fed_iteration.result
+    next is (sym (fed_not_ahead mode limit c.args.t (sym is))) (c.fed_iteration.ensures.taken edges done grid before kept.active early)
 
 pub returns-in-Fed-clause-reads : goal.returns-in-Fed-clause-reads
 returns-in-Fed-clause-reads g c =

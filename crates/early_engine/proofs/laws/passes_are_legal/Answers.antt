@@ -7,7 +7,7 @@ returns-clause-stands g c program edges n parts bound hot some list silent mode 
     stands_after (g.G.VertexProgram.model program) (g.met.G.VertexProgram.lawful program) edges n parts bound hot mode limit t some list silent inside most
 
 pub returns-clause-full_few : goal.returns-clause-full_few
-returns-clause-full_few g c edges size p = full_few edges size p
+returns-clause-full_few g c edges size p need = full_few edges size p need
 
 pub returns-clause-fed_few : goal.returns-clause-fed_few
-returns-clause-fed_few g c edges size p = fed_few edges size p
+returns-clause-fed_few g c edges size p need = fed_few edges size p need

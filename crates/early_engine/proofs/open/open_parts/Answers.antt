@@ -24,4 +24,5 @@ returns-clause-fits g c =
       after_fits = lists.after ∙ every;
       sums_fit = lists.sums ∙ ap chunk_of (sym read.cut);
       early_fits = lists.early ∙ every;
+      active_fits = lists.active ∙ ap (λ (k : Cut). k.parts) (sym read.cut);
     }

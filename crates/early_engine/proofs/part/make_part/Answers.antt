@@ -2,9 +2,10 @@ use Rattle.std.proofs.Common.{◌≡◌, ℕ, suc, ◌+◌, ◌-◌, ◌≤◌, 
 use Rattle.std.proofs.lemmas.List.{length-take, length-drop}
 use Rattle.lumos_law.specs.Sync.{sum_at, values, IsChunk}
 use Rattle.lumos_law.proofs.ChunkLemmas.{chunk_part}
-use Rattle.partition.specs.Parts.{chunk_of, first_vertex}
+use Rattle.partition.specs.Parts.{chunk_of, first_vertex, part_length}
 use Rattle.partition.specs.declared.records.VertexRange.{VertexRange}
 use Rattle.flight_core.specs.Finish.{finish_of}
+use Rattle.flight_core.specs.declared.steps.Finish.{Finish}
 use Rattle.early_engine.proofs.MadeLemmas.{chunk_put, moved_next, over_found, over_next}
 use Rattle.early_engine.proofs.OverLemmas.{over_at, over_high, over_low}
 use Rattle.early_engine.proofs.part.make_part.Goals as goal
@@ -103,3 +104,21 @@ returns-clause-made g c edges t moved holds sums made =
           ∙ moved_next p old (sum_at p edges old) (first_vertex n (chunk_of cut) j) (past - first) first (first_vertex n (chunk_of cut) (j + 1)) c.finalise-end.result first_is total came;
       none = over_next p old (sum_at p edges old) (first_vertex n (chunk_of cut) j) (past - first) first (first_vertex n (chunk_of cut) (j + 1)) c.finalise-end.result first_is total came made.none ∙ c.in_default.is;
     }
+
+pub returns-clause-hot : goal.returns-clause-hot
+returns-clause-hot g c edges t holds sums =
+    let p = g.G.VertexProgram.model c.args.program.now in
+    let cut = c.args.layout.now.parts in
+    let n = cut.vertices in
+    let first = c.range_of-range.result.first in
+    let past = c.range_of-range.result.past in
+    let first_is : first ≡ first_vertex n (chunk_of cut) c.args.j = ap (λ (r : VertexRange). r.first) c.range_of-range.ensures.value in
+    let past_is : past ≡ first_vertex n (chunk_of cut) (c.args.j + 1) = ap (λ (r : VertexRange). r.past) c.range_of-range.ensures.value in
+    let piece : length (take (past - first) (drop first c.args.before.now)) ≡ past - first =
+    simp (length-take, length-drop) (omega (arith, c.range_of-range.ensures.ordered, c.range_of-range.ensures.inside, c.requires.before_fits)) in
+    let old = values p edges t in
+    let there = subst (λ f. IsChunk (sum_at p edges old) f c.args.sums.now) (sym first_is) sums in
+    let part = chunk_part old 0 c.args.before.now first (past - first) first (omega arith) holds in
+    let end = c.finalise-end.ensures.step old (sum_at p edges old) part there in
+    let long : length (take (past - first) (drop first c.args.before.now)) ≡ part_length n (chunk_of cut) c.args.j = omega (arith, piece, first_is, past_is) in
+    ap (λ (f : Finish). f.hot) end.1 ∙ (λ i. (finish_of p old (sum_at p edges old) (first_is i) (long i)).hot)

@@ -24,9 +24,9 @@ returns-in-Ok-Ended-clause-told g c edges stands =
     let key = same_key c.args.engine.now w c.loop-turn.invariant.same in
     let here = subst (λ k. IsStanding (model k.program) edges told w) (sym key) run.stands in
     let text = subst (λ k. now ≡ after_told written (texts (lines_of model edges k) w.finished)) (sym key) run.text in
-    let turned = subst (HasTurned (model w.program) w.options.show w.options.mode edges (cut_in w.info) w.options.iterations w.finished c.turn.new.self.values c.turn.new.self.early now after) c.in-Ok-Ended.field-0-is (c.in-Ok-Ended.ensures.told edges here) in
+    let turned = subst (HasTurned (model w.program) w.options.show w.options.mode edges (cut_in w.info) w.options.iterations w.finished c.turn.new.self.values c.turn.new.self.early c.turn.new.self.active now after) c.in-Ok-Ended.field-0-is (c.in-Ok-Ended.ensures.told edges here) in
     subst (λ k. RunComes (end_of model edges k) (later_of model edges k) written after (Ok c.in-Ok-Ended.ending)) key
-    (ended_comes (model w.program) w.options.show w.options.mode edges (cut_in w.info) w.options.iterations w.finished here.goes_on written now after c.turn.new.self.values c.turn.new.self.early c.in-Ok-Ended.ending text turned)
+    (ended_comes (model w.program) w.options.show w.options.mode edges (cut_in w.info) w.options.iterations w.finished here.goes_on written now after c.turn.new.self.values c.turn.new.self.early c.turn.new.self.active c.in-Ok-Ended.ending text turned)
 
 pub returns-in-Ok-Ended-clause-primary : goal.returns-in-Ok-Ended-clause-primary
 returns-in-Ok-Ended-clause-primary g c edges stands =
@@ -38,7 +38,7 @@ returns-in-Ok-Ended-clause-primary g c edges stands =
     let run = c.loop-turn.invariant.running edges stands in
     let key = same_key c.args.engine.now w c.loop-turn.invariant.same in
     let here = subst (λ k. IsStanding (model k.program) edges told w) (sym key) run.stands in
-    let turned = subst (HasTurned (model w.program) w.options.show w.options.mode edges (cut_in w.info) w.options.iterations w.finished c.turn.new.self.values c.turn.new.self.early now after) c.in-Ok-Ended.field-0-is (c.in-Ok-Ended.ensures.told edges here) in
+    let turned = subst (HasTurned (model w.program) w.options.show w.options.mode edges (cut_in w.info) w.options.iterations w.finished c.turn.new.self.values c.turn.new.self.early c.turn.new.self.active now after) c.in-Ok-Ended.field-0-is (c.in-Ok-Ended.ensures.told edges here) in
     let last : c.in-Ok-Ended.ending.iterations ≡ suc w.finished = turned.tells.1 in
     rose_more (primary_at model edges (key_of c.args.engine.now)) w.finished c.in-Ok-Ended.ending.iterations _ _ _ (omega arith) run.primary
     (subst (λ k. RoseBy (g.D.Depot.taken c.loop-turn.depot Primary) (g.D.Depot.taken c.turn.new.depot Primary) (primary_at model edges k (w.finished + 1))) key (c.in-Ok-Ended.ensures.primary edges here))
@@ -53,7 +53,7 @@ returns-in-Ok-Ended-clause-secondary g c edges stands =
     let run = c.loop-turn.invariant.running edges stands in
     let key = same_key c.args.engine.now w c.loop-turn.invariant.same in
     let here = subst (λ k. IsStanding (model k.program) edges told w) (sym key) run.stands in
-    let turned = subst (HasTurned (model w.program) w.options.show w.options.mode edges (cut_in w.info) w.options.iterations w.finished c.turn.new.self.values c.turn.new.self.early now after) c.in-Ok-Ended.field-0-is (c.in-Ok-Ended.ensures.told edges here) in
+    let turned = subst (HasTurned (model w.program) w.options.show w.options.mode edges (cut_in w.info) w.options.iterations w.finished c.turn.new.self.values c.turn.new.self.early c.turn.new.self.active now after) c.in-Ok-Ended.field-0-is (c.in-Ok-Ended.ensures.told edges here) in
     let last : c.in-Ok-Ended.ending.iterations ≡ suc w.finished = turned.tells.1 in
     rose_more (secondary_at model edges (key_of c.args.engine.now)) w.finished c.in-Ok-Ended.ending.iterations _ _ _ (omega arith) run.secondary
     (subst (λ k. RoseBy (g.D.Depot.taken c.loop-turn.depot Secondary) (g.D.Depot.taken c.turn.new.depot Secondary) (secondary_at model edges k (w.finished + 1))) key (c.in-Ok-Ended.ensures.secondary edges here))
@@ -71,7 +71,7 @@ returns-in-Err-clause-told g c edges stands =
     let here = subst (λ k. IsStanding (model k.program) edges told w) (sym key) run.stands in
     let text = subst (λ k. now ≡ after_told written (texts (lines_of model edges k) w.finished)) (sym key) run.text in
     subst (λ k. RunComes (end_of model edges k) (later_of model edges k) written after (Err c.in-Err.fault)) key
-    (stopped_comes (model w.program) w.options.show w.options.mode edges (cut_in w.info) w.options.iterations w.finished here.goes_on written now after c.turn.new.self.values c.turn.new.self.early c.in-Err.fault text (c.in-Err.ensures.told edges here))
+    (stopped_comes (model w.program) w.options.show w.options.mode edges (cut_in w.info) w.options.iterations w.finished here.goes_on written now after c.turn.new.self.values c.turn.new.self.early c.turn.new.self.active c.in-Err.fault text (c.in-Err.ensures.told edges here))
 
 pub loop-turn-preserved : goal.loop-turn-preserved
 loop-turn-preserved g c =
@@ -102,8 +102,8 @@ loop-turn-preserved g c =
           let key = same_key c.args.engine.now w kept.same in
           let here = subst (λ k. IsStanding (model k.program) edges told w) (sym key) run.stands in
           let text = subst (λ k. now ≡ after_told written (texts (lines_of model edges k) w.finished)) (sym key) run.text in
-          let turned = subst (HasTurned (model w.program) w.options.show w.options.mode edges (cut_in w.info) w.options.iterations w.finished new.values new.early now after) c.in-Ok-Going.field-0-is (next.told edges here) in
-          let written_on = going_text (model w.program) w.options.show w.options.mode edges (cut_in w.info) w.options.iterations w.finished here.goes_on written now after new.values new.early text turned in
+          let turned = subst (HasTurned (model w.program) w.options.show w.options.mode edges (cut_in w.info) w.options.iterations w.finished new.values new.early new.active now after) c.in-Ok-Going.field-0-is (next.told edges here) in
+          let written_on = going_text (model w.program) w.options.show w.options.mode edges (cut_in w.info) w.options.iterations w.finished here.goes_on written now after new.values new.early new.active text turned in
           record {
             stands = subst (λ k. IsStanding (model k.program) edges (g.D.Depot.holds c.turn.new.depot) new) key (c.turn.ensures.stands edges here (c.in-Ok-Going.is ∙ ap Ok c.in-Ok-Going.field-0-is));
             text = subst (λ k. after ≡ after_told written (texts (lines_of model edges k) new.finished)) key (written_on ∙ ap (λ (t : ℕ). after_told written (texts (lines_of model edges (key_of w)) t)) (sym next.finished));

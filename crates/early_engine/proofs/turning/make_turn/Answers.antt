@@ -11,7 +11,7 @@ returns-in-Ok-write_turn-clause-told g c edges done grid kept at low is =
     let made = c.in-Ok.ensures.made edges done grid at kept in
     let read = subst (IsChunk (values p edges (suc done)) 0) (sym c.deref.ensures.value) made.kept.holds in
     let wrote = c.in-Ok-write_turn.ensures.bytes (values p edges (suc done)) read in
-    turned_ok p c.args.options.show c.args.options.mode edges c.args.layout.now.parts c.args.options.iterations done low is c.args.t (length c.deref.result.now) c.kind_of-kind.result c.in-Ok.counts _ _ _ _ c.in-Ok-write_turn.turn
+    turned_ok p c.args.options.show c.args.options.mode edges c.args.layout.now.parts c.args.options.iterations done low is c.args.t (length c.deref.result.now) c.kind_of-kind.result c.in-Ok.counts _ _ _ _ _ c.in-Ok-write_turn.turn
     at (c.deref.ensures.len ∙ c.in-Ok.ensures.fits.before_fits) c.kind_of-kind.ensures made wrote.0 wrote.1
 
 pub returns-in-Ok-write_turn-clause-going : goal.returns-in-Ok-write_turn-clause-going
@@ -23,7 +23,7 @@ returns-in-Err-write_turn-clause-told g c edges done grid kept at low is =
     let p = g.G.VertexProgram.model c.args.program.now in
     let made = c.in-Ok.ensures.made edges done grid at kept in
     let read = subst (IsChunk (values p edges (suc done)) 0) (sym c.deref.ensures.value) made.kept.holds in
-    turned_cut p c.args.options.show c.args.options.mode edges c.args.layout.now.parts c.args.options.iterations done low is c.args.t (length c.deref.result.now) c.kind_of-kind.result c.in-Ok.counts _ _ _ _
+    turned_cut p c.args.options.show c.args.options.mode edges c.args.layout.now.parts c.args.options.iterations done low is c.args.t (length c.deref.result.now) c.kind_of-kind.result c.in-Ok.counts _ _ _ _ _
     at (c.deref.ensures.len ∙ c.in-Ok.ensures.fits.before_fits) c.kind_of-kind.ensures made (c.in-Err-write_turn.ensures.bytes (values p edges (suc done)) read)
 
 pub returns-in-Err-clause-told : goal.returns-in-Err-clause-told
@@ -33,6 +33,7 @@ returns-in-Err-clause-told g c edges done grid kept at low is =
     let unmade = c.in-Err.ensures.made edges done grid at kept in
     let items = c.advance.new.room.before.items in
     let sums = c.advance.new.room.early.items in
+    let flags = c.advance.new.room.active.was_hot in
     let held = g.O.Sink.written c.args.out.now in
-    subst (λ (f : RunFault). TurnComes p c.args.options.show c.args.options.mode edges cut c.args.options.iterations done items sums held held (Err f)) (sym c.fault_of.ensures)
-    (turned_stop p c.args.options.show c.args.options.mode edges cut c.args.options.iterations done low is c.args.t c.in-Err.stop items sums held at unmade)
+    subst (λ (f : RunFault). TurnComes p c.args.options.show c.args.options.mode edges cut c.args.options.iterations done items sums flags held held (Err f)) (sym c.fault_of.ensures)
+    (turned_stop p c.args.options.show c.args.options.mode edges cut c.args.options.iterations done low is c.args.t c.in-Err.stop items sums flags held at unmade)

@@ -2,9 +2,7 @@ use Rattle.std.specs.Prelude.{IfErr, IfOk}
 use Rattle.std.proofs.Common.{Ok, Err, sym, subst}
 use Rattle.lumos_depot.specs.declared.depot.FileKind.TheVariants.{Meta, Primary, Secondary}
 use Rattle.lumos_law.specs.Sync.{ending}
-use Rattle.partition.specs.Parts.{chunk_of}
 use Rattle.grid_build.specs.Outside.{RoseBy}
-use Rattle.early_engine.specs.Engines.{cut_in}
 use Rattle.early_engine.specs.Making.{IsOver}
 use Rattle.early_engine.specs.Turns.{RunIsOver}
 use Rattle.early_engine.specs.Passes.{primary_taken, secondary_taken}
@@ -48,8 +46,8 @@ returns-in-Ok-run-clause-takes g c = λ list parts of.
     (run_took model name c.args.program list parts _ c.args.info _ (g.D.Depot.holds c.open.new.depot) e _ _ c.in-Ok-run.ending (t c.args.depot.now) (t c.open.new.depot) (t c.run.new.depot) c.in-Ok.ensures.program c.in-Ok.ensures.options c.in-Ok.ensures.info of
     c.in-Ok.ensures.told
     (λ edges opened. subst (RunComes (ending (model e.program) edges e.info.vertices e.options.iterations) (report (model e.program) (name e.program) e.options.show e.options.mode edges e.info.vertices e.info.parts e.options.iterations) _ _) c.in-Ok-run.is (c.run.ensures.told edges opened))
-    (λ edges opened. subst (λ r. IfOk r (λ end. RoseBy (t c.open.new.depot Primary) (t c.run.new.depot Primary) (primary_taken e.options.mode edges (chunk_of (cut_in e.info)) e.info.parts end.iterations))) c.in-Ok-run.is (c.run.ensures.primary edges opened))
-    (λ edges opened. subst (λ r. IfOk r (λ end. RoseBy (t c.open.new.depot Secondary) (t c.run.new.depot Secondary) (secondary_taken e.options.mode edges (chunk_of (cut_in e.info)) e.info.parts end.iterations))) c.in-Ok-run.is (c.run.ensures.secondary edges opened))
+    (λ edges opened. subst (λ r. IfOk r (λ end. RoseBy (t c.open.new.depot Primary) (t c.run.new.depot Primary) (primary_taken (model e.program) edges e.info.vertices e.info.parts e.options.mode e.options.iterations end.iterations))) c.in-Ok-run.is (c.run.ensures.primary edges opened))
+    (λ edges opened. subst (λ r. IfOk r (λ end. RoseBy (t c.open.new.depot Secondary) (t c.run.new.depot Secondary) (secondary_taken (model e.program) edges e.info.vertices e.info.parts e.options.mode e.options.iterations end.iterations))) c.in-Ok-run.is (c.run.ensures.secondary edges opened))
     (c.open.ensures.reads.taken Primary (λ is. cc))
     (c.open.ensures.reads.taken Secondary (λ is. cc)))
 

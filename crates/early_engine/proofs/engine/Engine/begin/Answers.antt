@@ -1,9 +1,11 @@
 use Rattle.std.proofs.Common.{◌≤◌, ◌++◌, Ok, Err, length, drop, take, refl, sym, ap, ◌∙◌, subst, arith}
 use Rattle.std.proofs.lemmas.List.{take_at}
+use Rattle.lumos_law.specs.Sync.{values, IsChunk}
 use Rattle.partition.specs.Parts.{Cut}
+use Rattle.early_engine.specs.Early.{IsKept}
 use Rattle.early_engine.specs.Engines.{IsOpened, cut_in}
 use Rattle.early_engine.specs.Starts.{StartComes}
-use Rattle.early_engine.proofs.StandLemmas.{core_first, stands_first}
+use Rattle.early_engine.proofs.StandLemmas.{core_first, kept_first, stands_first}
 use Rattle.early_engine.proofs.engine.Engine.begin.Goals as goal
 
 pub returns-in-Ok-clause-told : goal.returns-in-Ok-clause-told
@@ -36,11 +38,21 @@ returns-in-Err-clause-told g c edges =
 pub returns-in-Ok-clause-stands : goal.returns-in-Ok-clause-stands
 returns-in-Ok-clause-stands g c edges opened ok =
     let model = g.G.VertexProgram.model in
+    let told = g.D.Depot.holds c.args.depot.now in
     let was = c.self.view_is in
+    let here = c.self.inside in
+    let made = c.make_start.new.values in
+    let items = take here.room.before.len (made ++ drop (length made) here.room.before.items) in
+    let sums = here.room.early.items in
+    let flags = c.mark_first.new.active.was_hot in
     let none = c.self.invariant.counted.none (ap (λ w. w.phase) was ∙ c.requires.fresh) in
-    stands_first (model c.args.self.now.program) edges (g.D.Depot.holds c.args.depot.now) (g.D.Depot.holds c.make_start.new.depot) c.args.self.now _ c.in-Ok.ensures.reads.contents
+    let chunk = (returns-in-Ok-clause-told g c edges opened).0 in
+    let kept = subst (λ w. IsChunk (values (model w.program) edges 0) 0 items → IsKept (model w.program) edges (cut_in w.info) w.options.mode w.options.iterations 0 items sums flags) was
+    (λ held. kept_first (model here.program) edges here.layout.parts (cut_in here.info) here.options.mode here.options.iterations items c.deref.result.now sums flags
+    c.self.invariant.cut_fits c.deref.ensures.value held c.mark_first.ensures.hot) chunk in
+    stands_first (model c.args.self.now.program) edges told (g.D.Depot.holds c.make_start.new.depot) c.args.self.now _ c.in-Ok.ensures.reads.contents
     (record { program = ap (λ w. w.program) was; options = ap (λ w. w.options) was; info = ap (λ w. w.info) was; table = ap (λ w. w.table) was })
-    refl none (omega (arith, c.self.invariant.counted.some)) opened (returns-in-Ok-clause-told g c edges opened).0
+    refl none (omega (arith, c.self.invariant.counted.some)) opened kept
 
 pub returns-in-Ok-clause-core : goal.returns-in-Ok-clause-core
 returns-in-Ok-clause-core g c edges opened =
@@ -53,5 +65,8 @@ returns-in-Ok-clause-core g c edges opened =
     let put = c.make_start.auto.values ∙ c.deref_mut.ensures.len in
     let all = ap (λ (k : Cut). k.vertices) c.self.invariant.cut_fits ∙ ap (λ w. w.info.vertices) was in
     let few = subst (λ w. w.options.iterations ≤ 1000000) was c.self.invariant.counted.few in
-    core_first (model engine.program) (g.met.G.VertexProgram.lawful engine.program) edges (g.D.Depot.holds c.args.depot.now) engine (take held.before.len (values ++ behind)) held.early.items few
-    (ap length (take_at values behind held.before.len put) ∙ put ∙ c.self.invariant.roomy.before_fits ∙ all) (sym held.early.ok.0 ∙ c.self.invariant.roomy.early_fits ∙ all) opened (returns-in-Ok-clause-told g c edges opened).0
+    let none = c.self.invariant.counted.none (ap (λ w. w.phase) was ∙ c.requires.fresh) in
+    core_first (model engine.program) (g.met.G.VertexProgram.lawful engine.program) edges (g.D.Depot.holds c.args.depot.now) (g.D.Depot.holds c.make_start.new.depot) engine _ few
+    (ap length (take_at values behind held.before.len put) ∙ put ∙ c.self.invariant.roomy.before_fits ∙ all) (sym held.early.ok.0 ∙ c.self.invariant.roomy.early_fits ∙ all)
+    (record { program = ap (λ w. w.program) was; options = ap (λ w. w.options) was; info = ap (λ w. w.info) was; table = ap (λ w. w.table) was })
+    none opened (returns-in-Ok-clause-stands g c edges opened refl)

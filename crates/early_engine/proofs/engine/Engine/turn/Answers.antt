@@ -1,9 +1,12 @@
 use Rattle.std.proofs.Common.{◌≡◌, ◌≤◌, ◌+◌, Ok, Err, refl, sym, ap, ◌∙◌, subst}
+use Rattle.lumos_depot.specs.declared.depot.FileKind.TheVariants.{Primary, Secondary}
 use Rattle.partition.specs.Parts.{Cut}
+use Rattle.value_files.specs.Outside.{RoseBy}
 use Rattle.early_engine.specs.Engines.{IsStanding, cut_in}
+use Rattle.early_engine.specs.Passes.{primary_bytes, secondary_bytes}
 use Rattle.early_engine.specs.Turns.{HasTurned, TurnComes, phase_after}
 use Rattle.early_engine.specs.declared.options.Turn.TheVariants.{Going}
-use Rattle.early_engine.proofs.StandLemmas.{core_turned, stands_again, turn_comes}
+use Rattle.early_engine.proofs.StandLemmas.{core_turned, stands_again, stood, turn_comes}
 use Rattle.early_engine.proofs.engine.Engine.turn.Goals as goal
 
 pub returns-in-Ok-clause-told : goal.returns-in-Ok-clause-told
@@ -12,10 +15,11 @@ returns-in-Ok-clause-told g c edges =
     let told = g.D.Depot.holds c.args.depot.now in
     let items = c.make_turn.new.room.before.items in
     let sums = c.make_turn.new.room.early.items in
+    let flags = c.make_turn.new.room.active.was_hot in
     let held = g.O.Sink.written c.args.out.now in
     let after = g.O.Sink.written c.make_turn.new.out in
-    subst (λ w. IsStanding (model w.program) edges told w → HasTurned (model w.program) w.options.show w.options.mode edges (cut_in w.info) w.options.iterations w.finished items sums held after c.in-Ok.turn) c.self.view_is
-    (turn_comes (model c.self.inside.program) edges told _ c.self.inside.layout.parts (c.self.inside.finished + 1) items sums held after (Ok c.in-Ok.turn) c.self.invariant.cut_fits refl (c.in-Ok.ensures.told edges))
+    subst (λ w. IsStanding (model w.program) edges told w → HasTurned (model w.program) w.options.show w.options.mode edges (cut_in w.info) w.options.iterations w.finished items sums flags held after c.in-Ok.turn) c.self.view_is
+    (turn_comes (model c.self.inside.program) edges told _ c.self.inside.layout.parts (c.self.inside.finished + 1) items sums flags held after (Ok c.in-Ok.turn) c.self.invariant.cut_fits refl (c.in-Ok.ensures.told edges))
 
 pub returns-in-Err-clause-told : goal.returns-in-Err-clause-told
 returns-in-Err-clause-told g c edges =
@@ -23,10 +27,11 @@ returns-in-Err-clause-told g c edges =
     let told = g.D.Depot.holds c.args.depot.now in
     let items = c.make_turn.new.room.before.items in
     let sums = c.make_turn.new.room.early.items in
+    let flags = c.make_turn.new.room.active.was_hot in
     let held = g.O.Sink.written c.args.out.now in
     let after = g.O.Sink.written c.make_turn.new.out in
-    subst (λ w. IsStanding (model w.program) edges told w → TurnComes (model w.program) w.options.show w.options.mode edges (cut_in w.info) w.options.iterations w.finished items sums held after (Err c.in-Err.fault)) c.self.view_is
-    (turn_comes (model c.self.inside.program) edges told _ c.self.inside.layout.parts (c.self.inside.finished + 1) items sums held after (Err c.in-Err.fault) c.self.invariant.cut_fits refl (c.in-Err.ensures.told edges))
+    subst (λ w. IsStanding (model w.program) edges told w → TurnComes (model w.program) w.options.show w.options.mode edges (cut_in w.info) w.options.iterations w.finished items sums flags held after (Err c.in-Err.fault)) c.self.view_is
+    (turn_comes (model c.self.inside.program) edges told _ c.self.inside.layout.parts (c.self.inside.finished + 1) items sums flags held after (Err c.in-Err.fault) c.self.invariant.cut_fits refl (c.in-Err.ensures.told edges))
 
 pub returns-in-Ok-clause-stands : goal.returns-in-Ok-clause-stands
 returns-in-Ok-clause-stands g c edges stands going =
@@ -47,6 +52,30 @@ returns-in-Ok-clause-core g c edges stands =
     let room = c.make_turn.new.room in
     let fits = c.in-Ok.ensures.fits in
     let all = ap (λ (k : Cut). k.vertices) c.self.invariant.cut_fits ∙ ap (λ w. w.info.vertices) was in
-    core_turned (model engine.program) edges (g.D.Depot.holds c.args.depot.now) (g.met.G.VertexProgram.lawful engine.program) engine (c.self.inside.finished + 1) room.before.items room.early.items
+    core_turned (model engine.program) edges (g.D.Depot.holds c.args.depot.now) (g.met.G.VertexProgram.lawful engine.program) engine (c.self.inside.finished + 1) room.before.items room.early.items room.active.was_hot
     (g.O.Sink.written c.args.out.now) (g.O.Sink.written c.make_turn.new.out) c.in-Ok.turn few (ap (λ w. w.finished + 1) was)
     (sym room.before.ok.0 ∙ fits.before_fits ∙ all) (sym room.early.ok.0 ∙ fits.early_fits ∙ all) stands (returns-in-Ok-clause-told g c edges stands)
+
+pub returns-in-Ok-clause-primary : goal.returns-in-Ok-clause-primary
+returns-in-Ok-clause-primary g c edges =
+    let model = g.G.VertexProgram.model in
+    let told = g.D.Depot.holds c.args.depot.now in
+    let held = g.D.Depot.taken c.args.depot.now Primary in
+    let after = g.D.Depot.taken c.make_turn.new.depot Primary in
+    let here = c.self.inside in
+    subst (λ w. IsStanding (model w.program) edges told w → RoseBy held after (primary_bytes (model w.program) edges w.info.vertices w.info.parts w.options.mode w.options.iterations (w.finished + 1))) c.self.view_is
+    (stood (model here.program) edges told _ here.layout.parts (here.finished + 1)
+    (λ (k : Cut). RoseBy held after (primary_bytes (model here.program) edges k.vertices k.parts here.options.mode here.options.iterations (here.finished + 1))) c.self.invariant.cut_fits refl
+    (λ done grid at kept. c.in-Ok.ensures.primary edges done grid at kept))
+
+pub returns-in-Ok-clause-secondary : goal.returns-in-Ok-clause-secondary
+returns-in-Ok-clause-secondary g c edges =
+    let model = g.G.VertexProgram.model in
+    let told = g.D.Depot.holds c.args.depot.now in
+    let held = g.D.Depot.taken c.args.depot.now Secondary in
+    let after = g.D.Depot.taken c.make_turn.new.depot Secondary in
+    let here = c.self.inside in
+    subst (λ w. IsStanding (model w.program) edges told w → RoseBy held after (secondary_bytes (model w.program) edges w.info.vertices w.info.parts w.options.mode w.options.iterations (w.finished + 1))) c.self.view_is
+    (stood (model here.program) edges told _ here.layout.parts (here.finished + 1)
+    (λ (k : Cut). RoseBy held after (secondary_bytes (model here.program) edges k.vertices k.parts here.options.mode here.options.iterations (here.finished + 1))) c.self.invariant.cut_fits refl
+    (λ done grid at kept. c.in-Ok.ensures.secondary edges done grid at kept))

@@ -1,7 +1,7 @@
 // A cursor over the records of a block.
 ghost use Rattle.std.specs.Prelude.{◌≡◌, ◌≤◌, ◌<◌, ◌+◌, ◌*◌, ◌^◌, ◌↔◌, ℕ, All, Err, drop, length, take, IfErr, IfOk, IfSome, IsSome, OnErr, OnOk};
 ghost use Rattle.lumos_depot.specs.Causes.{Rose};
-ghost use Rattle.value_files.specs.Outside.{Reads, RoseBy};
+ghost use Rattle.lumos_depot.specs.Steps.{Reads, RoseBy};
 ghost use Rattle.column_stream.specs.Cursors.{IsInside, edges_left, fault_left, moved_by};
 ghost use Rattle.column_stream.specs.Records.{FaultIs, Fits, IsDamage};
 

@@ -1,7 +1,7 @@
 // Records read from a file.
 ghost use Rattle.std.specs.Prelude.{◌≡◌, ◌≤◌, ◌<◌, ◌+◌, ◌*◌, ◌^◌, ℕ, All, Err, length, IfErr, IfSome, IsSome, OnOk};
 ghost use Rattle.lumos_depot.specs.Causes.{Rose};
-ghost use Rattle.value_files.specs.Outside.{Reads, RoseBy};
+ghost use Rattle.lumos_depot.specs.Steps.{Reads, RoseBy};
 ghost use Rattle.column_stream.specs.Records.{FaultIs, Fits, IsDamage, edges_at, first_fault};
 
 use crate::records::{Ends, get_records};

@@ -21,7 +21,7 @@ use Rattle.column_stream.specs.Records.{FaultIs, Fits, IsDamage}
 use Rattle.column_stream.specs.declared.records.Ends.{Ends}
 use Rattle.column_stream.proofs.BlockLemmas.{block_streamed, low_streamed}
 use Rattle.column_stream.specs.Blocks.{IsStreamed}
-use Rattle.early_engine.proofs.Moving.{told_more, told_same}
+use Rattle.lumos_depot.proofs.StepLemmas.{told_more, told_same}
 use Rattle.early_engine.specs.Grids.{HasBlocks, IsIntact, IsLaid, IsOnGrid, ShowsStray, bytes_in, ends_of, place_in}
 use Rattle.early_engine.specs.Passes.{file_of}
 use Rattle.early_engine.specs.Steps.{GoesThrough}

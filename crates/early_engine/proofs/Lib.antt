@@ -6,7 +6,6 @@ pub mod GridLemmas
 pub mod HotLemmas
 pub mod KindLemmas
 pub mod MadeLemmas
-pub mod Moving
 pub mod OpenLemmas
 pub mod OverLemmas
 pub mod PassLemmas

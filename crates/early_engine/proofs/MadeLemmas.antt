@@ -20,7 +20,7 @@ use Rattle.flight_core.proofs.ColumnLemmas.{column-sum}
 use Rattle.flight_core.proofs.FinishLemmas.{finish_join}
 use Rattle.grid_format.specs.Tables.{BlockCounts}
 use Rattle.io_account.specs.declared.Counts.{Counts}
-use Rattle.value_files.specs.Outside.{RoseBy}
+use Rattle.lumos_depot.specs.Steps.{RoseBy}
 use Rattle.early_engine.specs.Grids.{IsOnGrid}
 use Rattle.std.specs.Prelude.{MatchResult, OnOk}
 use Rattle.early_engine.specs.Making.{IsMade, IsUnmade}

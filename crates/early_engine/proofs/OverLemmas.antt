@@ -2,8 +2,8 @@
 use Rattle.std.proofs.Common.{◌≡◌, ℕ, zero, suc, ◌+◌, ◌-◌, ◌<◌, ◌≤◌, Bool, true, false, cond, List, length, get_or, take, drop, Option, Some, None, find, option_map, refl, sym, ap, ap₂, ◌∙◌, arith}
 use Rattle.std.specs.List.{range_with_len}
 use Rattle.std.proofs.lemmas.List.{get_or-drop, get_or-take, get_or_default}
+use Rattle.lumos_base.specs.Leaving.{no_info}
 use Rattle.lumos_base.specs.Records.{vertex_of}
-use Rattle.lumos_base.specs.declared.records.OutInfo.{OutInfo}
 use Rattle.lumos_base.specs.declared.records.Vertex.{Vertex}
 use Rattle.lumos_law.specs.Program.{Program}
 use Rattle.lumos_law.specs.Sync.{IsChunk}
@@ -36,9 +36,6 @@ list_chunk xs first x = record {
       let place : k ≡ first + k - first = omega arith in
       get_or_default xs k d x below ∙ ap (λ (i : ℕ). get_or xs i x) place;
 }
-
-abbrev no_info : OutInfo
-no_info = record { degree = 0; weight = 0 }
 
 over_some : (o : Option ℕ) (u : Vertex) → option_map vertex_of o ≡ Some u → o ≡ Some u.0
 over_some None u h = absurd (cc)

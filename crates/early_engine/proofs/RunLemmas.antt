@@ -13,7 +13,7 @@ use Rattle.grid_format.specs.declared.head.GridInfo.{GridInfo}
 use Rattle.lumos_report.specs.declared.records.Ending.{Ending}
 use Rattle.lumos_report.specs.declared.records.Why.{Why}
 use Rattle.lumos_report.specs.declared.records.Why.TheVariants.{Still, Limit}
-use Rattle.value_files.specs.Outside.{RoseBy}
+use Rattle.lumos_depot.specs.Steps.{RoseBy}
 use Rattle.early_engine.specs.Engines.{EngineState, IsSameRun, IsStanding}
 use Rattle.early_engine.specs.Passes.{primary_bytes, primary_taken, secondary_bytes, secondary_taken}
 use Rattle.early_engine.specs.Report.{closing_line, end_line, finished, first_lines, later_lines, turn_lines, turn_text}

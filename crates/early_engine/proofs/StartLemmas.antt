@@ -4,6 +4,7 @@ use Rattle.std.specs.Prelude.{IfSome}
 use Rattle.std.specs.List.{range_with_len}
 use Rattle.std.proofs.lemmas.List.{drop-drop, drop-take, length-take-le, take_at}
 use Rattle.std.proofs.lemmas.List.Elements.{recursion_from_All}
+use Rattle.lumos_base.specs.Leaving.{out_info}
 use Rattle.byteorder.specs.Endian.{little_number}
 use Rattle.byteorder.specs.Numbers.{little_from-take}
 use Rattle.lumos_base.specs.RecordLaws.{info_reads_back}
@@ -17,7 +18,7 @@ use Rattle.lumos_law.specs.Sync.{values, IsChunk}
 use Rattle.lumos_law.proofs.ChunkLemmas.{chunk_append, chunk_same}
 use Rattle.lumos_law.proofs.ValueLemmas.{out_info_in}
 use Rattle.partition.specs.Parts.{Cut}
-use Rattle.grid_format.specs.Grid.{grid, grid_head, leaving}
+use Rattle.grid_format.specs.Grid.{grid, grid_head}
 use Rattle.grid_format.specs.Tables.{BlockCounts}
 use Rattle.grid_format.specs.declared.head.GridInfo.{GridInfo}
 use Rattle.lumos_report.specs.Report.{head_line, zero_line}
@@ -76,15 +77,15 @@ range_from a (suc v) (suc n) h =
     range_from (a + 1) v n (omega arith) ∙ ap (λ (b : ℕ). b ∷ range_with_len (b + 1) (n - (v + 1))) start ∙ ap (λ (m : ℕ). (a + suc v) ∷ range_with_len (a + suc v + 1) m) rest
 
 -- what is read of a vertex from the Info of a grid
-info_read : (edges : List Edge) (n parts v : ℕ) → v < n → length edges ≤ 2147483648 → All IsEdge edges → info_from (drop (12 * v) (grid edges n parts).info) ≡ leaving edges v
+info_read : (edges : List Edge) (n parts v : ℕ) → v < n → length edges ≤ 2147483648 → All IsEdge edges → info_from (drop (12 * v) (grid edges n parts).info) ≡ out_info edges v
 info_read edges n parts v below few numbers =
-    let bytes : ℕ → List ℕ = λ u. info_bytes (leaving edges u) in
+    let bytes : ℕ → List ℕ = λ u. info_bytes (out_info edges u) in
     let rest = flat_map bytes (range_with_len (v + 1) (n - (v + 1))) in
     let e : 0 + v ≡ v = omega arith in
     let at : drop (12 * v) (grid edges n parts).info ≡ bytes v ++ rest =
     drop-each bytes 12 v (range_with_len 0 n) (λ u. refl) ∙ ap (flat_map bytes) (range_from 0 v n below) ∙ ap (λ (u : ℕ). flat_map bytes (u ∷ range_with_len (u + 1) (n - (v + 1)))) e in
     ap info_from at ∙ sym (info_front 12 (bytes v ++ rest) (omega arith)) ∙ ap info_from (take_at (bytes v) rest 12 refl)
-    ∙ info_reads_back (leaving edges v) (out_info_in edges v few (recursion_from_All IsEdge edges numbers))
+    ∙ info_reads_back (out_info edges v) (out_info_in edges v few (recursion_from_All IsEdge edges numbers))
 
 -- the values that Info gives are those at first
 pub given_first : {V S : Type 0} (p : Program V S) (edges : List Edge) (cut : Cut) (table : BlockCounts) (told : FileKind → Option (List ℕ)) (items : List V) → IsOnGrid edges cut table told → length items ≡ cut.vertices

@@ -9,7 +9,7 @@ use Rattle.lumos_depot.specs.declared.depot.FileKind.TheVariants.{Primary, Secon
 use Rattle.partition.proofs.BucketLemmas.{range_more}
 use Rattle.lumos_report.specs.declared.records.Kind.{Kind}
 use Rattle.lumos_report.specs.declared.records.Kind.TheVariants.{Full, Fed}
-use Rattle.value_files.specs.Outside.{Reads, RoseBy}
+use Rattle.lumos_depot.specs.Steps.{Reads, RoseBy}
 use Rattle.early_engine.specs.Passes.{file_of, of_primary, of_secondary}
 use Rattle.early_engine.specs.Runs.{Streams}
 

@@ -8,7 +8,7 @@ ghost use Rattle.lumos_depot.specs.Causes.{Rose};
 ghost use Rattle.lumos_depot.specs.declared.depot.FileKind.{FileKind};
 ghost use Rattle.lumos_law.specs.Sync.{values, IsChunk};
 ghost use Rattle.partition.specs.Parts.{chunk_of, first_vertex, part_length};
-ghost use Rattle.value_files.specs.Outside.{Reads, RoseBy};
+ghost use Rattle.lumos_depot.specs.Steps.{Reads, RoseBy};
 ghost use Rattle.grid_format.specs.Tables.{BlockCounts};
 ghost use Rattle.early_engine.specs.Engines.{cut_in};
 ghost use Rattle.early_engine.specs.Grids.{IsOnGrid};

@@ -5,7 +5,7 @@ ghost use Rattle.lumos_depot.specs.Causes.{Rose};
 ghost use Rattle.partition.specs.Blocks.{block};
 ghost use Rattle.partition.specs.Parts.{chunk_of, IsInPart};
 ghost use Rattle.grid_format.specs.Tables.{count_at};
-ghost use Rattle.value_files.specs.Outside.{Reads, RoseBy};
+ghost use Rattle.lumos_depot.specs.Steps.{Reads, RoseBy};
 ghost use Rattle.early_engine.specs.Grids.{HasBlocks, IsIntact, IsLaid, IsOnGrid, ShowsStray, place_in};
 ghost use Rattle.early_engine.specs.Passes.{file_of};
 ghost use Rattle.early_engine.specs.Steps.{GoesThrough};

@@ -6,7 +6,7 @@ ghost use Rattle.lumos_depot.specs.Causes.{Rose};
 ghost use Rattle.lumos_depot.specs.declared.depot.FileKind.{FileKind};
 ghost use Rattle.lumos_report.specs.declared.records.Kind.{Kind};
 ghost use Rattle.partition.specs.Parts.{chunk_of, part_length};
-ghost use Rattle.value_files.specs.Outside.{Reads, RoseBy};
+ghost use Rattle.lumos_depot.specs.Steps.{Reads, RoseBy};
 ghost use Rattle.early_engine.specs.Grids.{HasBlocks, IsIntact, IsLaid, IsOnGrid, ShowsStray};
 ghost use Rattle.early_engine.specs.Passes.{Place, bytes_of, place_at, places, tally_of};
 ghost use Rattle.early_engine.specs.Steps.{AreHot, IsFedTo, IsReady, blocks_in, needs_by};

@@ -8,9 +8,9 @@ ghost use Rattle.partition.specs.Parts.{chunk_of};
 ghost use Rattle.grid_format.specs.Checks.{GridFiles, head_of};
 ghost use Rattle.grid_format.specs.Grid.{HasGrid, grid};
 ghost use Rattle.grid_format.specs.Heads.{IsHead};
-ghost use Rattle.grid_format.specs.Outside.{Holds, OnlyReads};
+ghost use Rattle.grid_format.specs.Outside.{Holds};
+ghost use Rattle.lumos_depot.specs.Steps.{Reads, RoseBy};
 ghost use Rattle.lumos_base.specs.Records.{IsEdge};
-ghost use Rattle.value_files.specs.Outside.{Reads, RoseBy};
 ghost use Rattle.early_engine.specs.Core.{IsCoreState};
 ghost use Rattle.early_engine.specs.Engines.{IsOpened, IsSameRun, IsStanding, cut_in};
 ghost use Rattle.early_engine.specs.Grids.{HasBlocks};
@@ -125,7 +125,7 @@ impl<G: VertexProgram> Engine<G> {
         ensures blocks_fit { IfOk result (λ engine. HasBlocks engine.table (D.holds depot.new)) }
         ensures damaged { IfErr result (OpenShows info (D.holds depot.old FileKind.Meta)) }
         ensures depot { result ≡ Err OpenFault.Depot → Rose (D.faults depot.old) (D.faults depot.new) }
-        ensures reads { OnlyReads D.holds D.taken D.stored D.faults D.attached depot.old depot.new }
+        ensures reads { Reads D.holds D.taken D.stored D.faults D.attached FileKind.Meta depot.old depot.new }
     {
         match open_parts(alloc, depot, info, &program) {
             Ok(opened) => Ok(Engine {

@@ -6,7 +6,7 @@ ghost use Rattle.lumos_depot.specs.Causes.{Rose};
 ghost use Rattle.flight_core.specs.EdgeList.{IsEdgeList};
 ghost use Rattle.partition.specs.Blocks.{block};
 ghost use Rattle.partition.specs.Parts.{chunk_of, first_vertex, part_length, IsInPart};
-ghost use Rattle.value_files.specs.Outside.{Reads, RoseBy};
+ghost use Rattle.lumos_depot.specs.Steps.{Reads, RoseBy};
 ghost use Rattle.early_engine.specs.Grids.{HasBlocks, IsIntact, IsLaid, IsOnGrid, ShowsStray};
 ghost use Rattle.early_engine.specs.Passes.{Place, bytes_of, file_of, is_hot, place_at, tally_of};
 ghost use Rattle.early_engine.specs.Steps.{GoesThrough, IsFedTo, blocks_in, with_read};

@@ -6,7 +6,7 @@ ghost use Rattle.lumos_depot.specs.declared.depot.FileKind.{FileKind};
 ghost use Rattle.lumos_law.specs.Sync.{values, IsChunk};
 ghost use Rattle.lumos_report.specs.declared.records.Kind.{Kind};
 ghost use Rattle.partition.specs.Parts.{chunk_of};
-ghost use Rattle.value_files.specs.Outside.{Reads, RoseBy};
+ghost use Rattle.lumos_depot.specs.Steps.{Reads, RoseBy};
 ghost use Rattle.early_engine.specs.Early.{IsKept, early_sum};
 ghost use Rattle.early_engine.specs.Engines.{IsRoomy};
 ghost use Rattle.early_engine.specs.Grids.{HasBlocks, IsLaid, IsOnGrid};

@@ -8,7 +8,8 @@ ghost use Rattle.partition.specs.Parts.{chunk_of};
 ghost use Rattle.grid_format.specs.Checks.{GridFiles, head_of};
 ghost use Rattle.grid_format.specs.Grid.{HasGrid, grid, grid_head};
 ghost use Rattle.grid_format.specs.Heads.{IsHead};
-ghost use Rattle.grid_format.specs.Outside.{Holds, OnlyReads};
+ghost use Rattle.grid_format.specs.Outside.{Holds};
+ghost use Rattle.lumos_depot.specs.Steps.{Reads};
 ghost use Rattle.grid_format.specs.Tables.{count_at};
 ghost use Rattle.early_engine.specs.Engines.{IsRoomy, cut_in};
 ghost use Rattle.early_engine.specs.Grids.{HasBlocks, IsOnGrid};
@@ -156,7 +157,7 @@ fn read_layout<D: Depot>(
         → info ≡ grid_head edges info.vertices info.parts }
     ensures damaged { IfErr result (OpenShows info (D.holds depot.old FileKind.Meta)) }
     ensures depot { result ≡ Err OpenFault.Depot → Rose (D.faults depot.old) (D.faults depot.new) }
-    ensures reads { OnlyReads D.holds D.taken D.stored D.faults D.attached depot.old depot.new }
+    ensures reads { Reads D.holds D.taken D.stored D.faults D.attached FileKind.Meta depot.old depot.new }
 {
     grids_are_read();
     match BlockTable::read(alloc, depot, info) {
@@ -184,7 +185,7 @@ pub(crate) fn open_parts<G: VertexProgram, D: Depot>(
         → IfOk result (λ opened. IsOnGrid edges (cut_in info) opened.layout.table (D.holds depot.new) × (info ≡ grid_head edges info.vertices info.parts)) }
     ensures damaged { IfErr result (OpenShows info (D.holds depot.old FileKind.Meta)) }
     ensures depot { result ≡ Err OpenFault.Depot → Rose (D.faults depot.old) (D.faults depot.new) }
-    ensures reads { OnlyReads D.holds D.taken D.stored D.faults D.attached depot.old depot.new }
+    ensures reads { Reads D.holds D.taken D.stored D.faults D.attached FileKind.Meta depot.old depot.new }
 {
     let parts = parts_of(info);
     let room = match make_lists(alloc, program, parts) {

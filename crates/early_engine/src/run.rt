@@ -4,7 +4,7 @@ ghost use Rattle.lumos_base.specs.declared.records.Edge.{Edge};
 ghost use Rattle.lumos_depot.specs.Causes.{Rose};
 ghost use Rattle.lumos_depot.specs.declared.depot.FileKind.{FileKind};
 ghost use Rattle.lumos_law.specs.Sync.{ending};
-ghost use Rattle.value_files.specs.Outside.{RoseBy};
+ghost use Rattle.lumos_depot.specs.Steps.{RoseBy};
 ghost use Rattle.early_engine.specs.Engines.{IsStanding, cut_in};
 ghost use Rattle.early_engine.specs.Grids.{HasBlocks};
 ghost use Rattle.early_engine.specs.Passes.{primary_taken, secondary_taken};

@@ -4,7 +4,7 @@ ghost use Rattle.lumos_base.specs.declared.records.Edge.{Edge};
 ghost use Rattle.lumos_depot.specs.Causes.{Rose};
 ghost use Rattle.lumos_depot.specs.declared.depot.FileKind.{FileKind};
 ghost use Rattle.lumos_law.specs.Sync.{ending, ending_from};
-ghost use Rattle.value_files.specs.Outside.{Reads, RoseBy};
+ghost use Rattle.lumos_depot.specs.Steps.{Reads, RoseBy};
 ghost use Rattle.early_engine.specs.Early.{IsKept};
 ghost use Rattle.early_engine.specs.Engines.{IsRoomy};
 ghost use Rattle.early_engine.specs.Grids.{HasBlocks, IsOnGrid};

@@ -1,12 +1,12 @@
 -- The edges of a text lie within its limits.
-use Rattle.std.proofs.Common.{◌≡◌, ◌≤◌, ◌<◌, ℕ, ◌+◌, ◌-◌, Bool, true, false, List, [], ◌∷◌, ◌++◌, length, take, nat_lt, nat_le, max, fold, Option, Some, None, Result, Ok, Err, refl, sym, ap, ◌∙◌, subst, arith}
+use Rattle.std.proofs.Common.{◌≡◌, ◌≤◌, ◌<◌, ℕ, ◌+◌, Bool, true, false, List, [], ◌∷◌, ◌++◌, length, nat_lt, nat_le, max, fold, Option, Some, None, Result, Ok, Err, refl, sym, ap, ◌∙◌, subst, arith}
 use Rattle.std.specs.Prelude.{if◌then◌else◌, unwrap_or}
 use Rattle.std.specs.List.{AllByRecursion, list_all}
 use Rattle.std.proofs.lemmas.Bool.{ltb-false, leb-false}
 use Rattle.std.proofs.lemmas.List.{length-append}
 use Rattle.lumos_base.specs.declared.records.Edge.{Edge}
 use Rattle.edge_text.specs.Fields.{fields_of, is_comment, is_digit, value_of}
-use Rattle.edge_text.specs.Lines.{lines_of, without_return}
+use Rattle.edge_text.specs.Lines.{without_return}
 use Rattle.edge_text.specs.Reading.{behind_source, behind_target, behind_weight, counted_lines, edge_between, edge_in, edges_of, greatest_end, if_good, is_beyond, line_edge, line_of, Listed, listed, number_in, one_past, read_lines, reading, reading_with, vertex_at, vertices_of, weight_at}
 use Rattle.edge_text.specs.declared.fault.InputWhat.{InputWhat}
 use Rattle.edge_text.specs.declared.fault.InputWhat.TheVariants.{NotANumber, NumberTooLarge, VertexTooLarge, WeightTooLarge, VertexBeyond}

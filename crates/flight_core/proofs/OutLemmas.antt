@@ -4,13 +4,14 @@ use Rattle.std.proofs.lemmas.Bool.{cases_eq, eq-eqb, ne_eqb}
 use Rattle.std.specs.List.{AllByRecursion}
 use Rattle.std.proofs.lemmas.List.{append-nil, get_or-set_other, get_or-set_same, length-append, length-set, length-take, take_more}
 use Rattle.std.proofs.lemmas.List.Elements.{All-take, recursion_from_All}
+use Rattle.lumos_base.specs.Leaving.{edges_from, no_info, out_info}
 use Rattle.lumos_base.specs.Records.{IsEdge}
 use Rattle.lumos_law.proofs.ValueLemmas.{out_info_in}
-use Rattle.flight_core.specs.EdgeList.{IsEdgeList, no_info}
+use Rattle.flight_core.specs.EdgeList.{IsEdgeList}
 use Rattle.std.proofs.lemmas.List.Sums.{sum_by-append}
 use Rattle.lumos_base.specs.declared.records.Edge.{Edge}
 use Rattle.lumos_base.specs.declared.records.OutInfo.{OutInfo}
-use Rattle.lumos_law.specs.Sync.{edges_from, out_info, IsChunk}
+use Rattle.lumos_law.specs.Sync.{IsChunk}
 use Rattle.lumos_law.proofs.SumLemmas.{filter-append}
 
 -- one edge more out of a vertex

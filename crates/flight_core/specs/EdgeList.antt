@@ -2,7 +2,6 @@
 use Rattle.std.specs.Prelude.{ℕ, ◌≤◌, List, length, All}
 use Rattle.lumos_base.specs.Records.{IsEdge}
 use Rattle.lumos_base.specs.declared.records.Edge.{Edge}
-use Rattle.lumos_base.specs.declared.records.OutInfo.{OutInfo}
 use Rattle.partition.specs.Blocks.{IsBelow}
 
 -- a list of edges between the vertices below n, within the limit on its length
@@ -10,7 +9,3 @@ pub record IsEdgeList (n : ℕ) (edges : List Edge) : Type 0 where
   pub few : length edges ≤ 2147483648
   pub numbers : All IsEdge edges
   pub ends : All (IsBelow n) edges
-
--- nothing leads out of a vertex
-abbrev pub no_info : OutInfo
-no_info = record { degree = 0; weight = 0 }

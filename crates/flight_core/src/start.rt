@@ -1,10 +1,11 @@
 // What the iterations begin with.
 ghost use Rattle.std.specs.Prelude.{◌≡◌, ◌≤◌, ◌<◌, ◌+◌, ◌^◌, ℕ, List, All, length, replicate, vec_len, IfOk};
-ghost use Rattle.flight_core.specs.EdgeList.{IsEdgeList, no_info};
+ghost use Rattle.lumos_base.specs.Leaving.{no_info, out_info};
+ghost use Rattle.flight_core.specs.EdgeList.{IsEdgeList};
 ghost use Rattle.flight_core.specs.Events.{start};
 ghost use Rattle.lumos_base.specs.Records.{IsEdge};
 ghost use Rattle.lumos_base.specs.declared.records.Edge.{Edge};
-ghost use Rattle.lumos_law.specs.Sync.{chunk, out_info, values, IsChunk};
+ghost use Rattle.lumos_law.specs.Sync.{chunk, values, IsChunk};
 ghost use Rattle.partition.specs.Parts.{chunk_of};
 
 use crate::kept::KeptItems;

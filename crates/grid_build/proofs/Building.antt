@@ -21,7 +21,8 @@ use Rattle.grid_format.specs.Grid.{HasGrid}
 use Rattle.grid_format.proofs.BlockPlaces.{length-each}
 use Rattle.grid_build.specs.Built.{HasBuilt, HasFiles, fault_of}
 use Rattle.grid_build.specs.Numbered.{IsCountedSpool}
-use Rattle.grid_build.specs.Outside.{LeavesRuns, Moves}
+use Rattle.grid_build.specs.Outside.{LeavesRuns}
+use Rattle.lumos_depot.specs.Steps.{Moves}
 use Rattle.grid_build.specs.Passes.{IsSpool}
 use Rattle.grid_build.specs.Spooling.{IsSpooled}
 use Rattle.grid_build.specs.declared.spool.Spooled.{Spooled}

@@ -7,9 +7,9 @@ use Rattle.lumos_depot.specs.Files.{overwritten, range_at}
 use Rattle.lumos_depot.specs.declared.depot.FileKind.{FileKind}
 use Rattle.lumos_depot.specs.declared.depot.FileKind.TheVariants.{Primary, Secondary}
 use Rattle.grid_build.specs.Copied.{CopiesAll, HasCopied}
-use Rattle.grid_build.specs.Outside.{RoseBy}
+use Rattle.lumos_depot.specs.Steps.{RoseBy}
 use Rattle.grid_build.proofs.InfoBytes.{length-overwritten, written_next, written_none}
-use Rattle.grid_build.proofs.Moving.{told_both, told_by, told_more, told_some}
+use Rattle.lumos_depot.proofs.StepLemmas.{told_both, told_by, told_more, told_some}
 
 told_each : (told : Option (List ℕ)) (P : List ℕ → Type 0) → ((file : List ℕ) → P file) → IfSome told P
 told_each None P each = tt

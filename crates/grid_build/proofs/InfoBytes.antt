@@ -9,7 +9,7 @@ use Rattle.lumos_base.specs.Records.{info_bytes}
 use Rattle.lumos_base.specs.declared.records.OutInfo.{OutInfo}
 use Rattle.lumos_depot.specs.Files.{overwritten}
 use Rattle.grid_format.proofs.BlockPlaces.{length-each}
-use Rattle.grid_build.proofs.Moving.{told_more}
+use Rattle.lumos_depot.proofs.StepLemmas.{told_more}
 
 pub length-infos : (infos : List OutInfo) → length (flat_map info_bytes infos) ≡ 12 * length infos
 length-infos infos = length-each info_bytes 12 infos (λ e. refl)

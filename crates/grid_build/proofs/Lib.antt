@@ -4,7 +4,6 @@ pub mod CountLemmas
 pub mod EdgeBytes
 pub mod InfoBytes
 pub mod LowLemmas
-pub mod Moving
 pub mod NumberLemmas
 pub mod PassLemmas
 pub mod Passing

@@ -20,7 +20,7 @@ use Rattle.grid_build.specs.Copied.{HasCopied, cut_table, low_range, low_ranges}
 use Rattle.grid_build.specs.Numbered.{AreCounts}
 use Rattle.grid_build.specs.Sorting.{start_of}
 use Rattle.grid_build.proofs.CopyLemmas.{copied_as, copied_next}
-use Rattle.grid_build.proofs.Moving.{told_more}
+use Rattle.lumos_depot.proofs.StepLemmas.{told_more}
 use Rattle.grid_build.proofs.NumberLemmas.{counts_are}
 
 -- numbers one after another, added up in two parts

@@ -10,7 +10,7 @@ use Rattle.lumos_depot.specs.Files.{range_at}
 use Rattle.partition.specs.Blocks.{IsBelow}
 use Rattle.grid_format.proofs.BlockPlaces.{drop-each, take-each}
 use Rattle.grid_build.specs.Passes.{IsPass}
-use Rattle.grid_build.proofs.Moving.{told_some}
+use Rattle.lumos_depot.proofs.StepLemmas.{told_some}
 
 -- one edge more was capped
 pub below_more : (n : ℕ) (edges : List Edge) (i : ℕ) (e : Edge) → i < length edges → IsBelow n e → All (IsBelow n) (take i edges) → All (IsBelow n) (take (i + 1) (set edges i e))

@@ -13,13 +13,13 @@ use Rattle.edge_text.specs.declared.fault.TextFault.{TextFault}
 use Rattle.edge_text.specs.declared.fault.TextFault.TheVariants as text
 use Rattle.edge_text.specs.declared.fault.TextLimits.{TextLimits}
 use Rattle.edge_text.proofs.Fits.{past_few, reading_within}
-use Rattle.grid_build.specs.Outside.{RoseBy}
+use Rattle.lumos_depot.specs.Steps.{RoseBy}
 use Rattle.grid_build.specs.Spooling.{HasSpooled, SpoolsAs}
 use Rattle.grid_build.specs.SpoolSteps.{EndsAs, HasPiece, IsAtEnd, IsSpooling, StopsAs, spool_fault}
 use Rattle.grid_build.specs.declared.spool.SpoolStop.{SpoolStop}
 use Rattle.grid_build.specs.declared.spool.SpoolStop.TheVariants as stop
 use Rattle.grid_build.specs.declared.spool.Spooled.{Spooled}
-use Rattle.grid_build.proofs.Moving.{rose_then, told_by}
+use Rattle.lumos_depot.proofs.StepLemmas.{rose_then, told_by}
 
 -- one piece after another
 pub takes_then : (old mid new : Option (List ℕ)) (seen piece : List ℕ) → Takes old mid seen → Takes mid new piece → Takes old new (seen ++ piece)

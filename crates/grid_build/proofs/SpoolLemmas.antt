@@ -12,12 +12,12 @@ use Rattle.edge_text.specs.Reading.{reading}
 use Rattle.edge_text.specs.declared.fault.TextLimits.{TextLimits}
 use Rattle.edge_text.proofs.Few.{read_few}
 use Rattle.edge_text.proofs.Steps.{part_left}
-use Rattle.grid_build.specs.Outside.{RoseBy}
+use Rattle.lumos_depot.specs.Steps.{RoseBy}
 use Rattle.grid_build.specs.SpoolSteps.{IsSpooling, StopsAs}
 use Rattle.grid_build.specs.declared.spool.SpoolStop.{SpoolStop}
 use Rattle.grid_build.specs.declared.spool.SpoolStop.TheVariants as stop
 use Rattle.grid_build.proofs.EdgeBytes.{length-edges}
-use Rattle.grid_build.proofs.Moving.{rose_then, told_by, told_more}
+use Rattle.lumos_depot.proofs.StepLemmas.{rose_then, told_by, told_more}
 
 -- so many edges have so many bytes in Spool
 pub spooling_length : (before : ℕ) (seen : List ℕ) (reader : ReaderState) (count : ℕ) (spool : Option (List ℕ)) (stored : ℕ) → IsSpooling before seen reader count spool stored → IfSome spool (λ file. length file ≡ 12 * count)

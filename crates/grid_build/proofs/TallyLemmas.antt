@@ -4,12 +4,12 @@ use Rattle.std.specs.List.{range_with_len, sum_by}
 use Rattle.std.proofs.lemmas.List.{get_or_default, get_or-map, get_or-replicate, length-map, length-replicate, same_lists, take_more}
 use Rattle.std.proofs.lemmas.List.Elements.{All-filter, All-nil, All-push, filter-append}
 use Rattle.std.proofs.lemmas.List.Sums.{count_by-le-length, length-filter, sum_by_push, sum_by-le}
+use Rattle.lumos_base.specs.Leaving.{edges_from, no_info, out_info}
 use Rattle.lumos_base.specs.declared.records.Edge.{Edge}
 use Rattle.lumos_base.specs.declared.records.OutInfo.{OutInfo}
-use Rattle.grid_format.specs.Grid.{leaving, out_edges}
 use Rattle.grid_format.proofs.BlockPlaces.{get_or-range, length-range}
 use Rattle.grid_build.specs.Passes.{IsSpool}
-use Rattle.grid_build.specs.Tallied.{AreTallies, HasSpace, HasTallied, IsLight, no_info, with_edge}
+use Rattle.grid_build.specs.Tallied.{AreTallies, HasSpace, HasTallied, IsLight, with_edge}
 use Rattle.grid_build.proofs.PassLemmas.{pass_none, pass_whole}
 
 abbrev info_of : ℕ → ℕ → OutInfo
@@ -24,9 +24,9 @@ tally_one : (e : Edge) (b : Bool) (outs : List Edge) → tally_of (outs ++ cond 
 tally_one e true outs = ap₂ info_of (length-append outs (e ∷ [])) (sum_by_push (λ x. x.weight.0) outs e)
 tally_one e false outs = ap tally_of (append-nil outs)
 
-leaving_more : (edges : List Edge) (e : Edge) (v : ℕ) → leaving (edges ++ e ∷ []) v ≡ with_edge v e (leaving edges v)
+leaving_more : (edges : List Edge) (e : Edge) (v : ℕ) → out_info (edges ++ e ∷ []) v ≡ with_edge v e (out_info edges v)
 leaving_more edges e v =
-    ap tally_of (filter-append (λ x. x.source.0 == v) edges (e ∷ [])) ∙ tally_one e (e.source.0 == v) (out_edges edges v)
+    ap tally_of (filter-append (λ x. x.source.0 == v) edges (e ∷ [])) ∙ tally_one e (e.source.0 == v) (edges_from edges v)
 
 -- one edge more is tallied
 pub tallies_more : (first : ℕ) (edges : List Edge) (e : Edge) (old new : List OutInfo) → AreTallies first edges old → IsLight e → length new ≡ length old →
@@ -41,7 +41,7 @@ tallies_more first edges e old new had light long each = record {
 -- few edges leave room for one more
 pub tallies_room : (first : ℕ) (edges : List Edge) (infos : List OutInfo) → AreTallies first edges infos → length edges < 2147483648 → (k : ℕ) → k < length infos → HasSpace (get_or infos k no_info)
 tallies_room first edges infos had few k inside =
-    let outs = out_edges edges (first + k) in
+    let outs = edges_from edges (first + k) in
     let fewer : length outs ≤ length edges = rw (length-filter (λ e. e.source.0 == first + k) edges) (count_by-le-length (λ e. e.source.0 == first + k) edges) in
     let light : All (λ (e : Edge). e.weight.0 ≤ 4294967295) edges = λ j d low. (let h = had.light j d low in omega arith) in
     let total = sum_by-le (λ (e : Edge). e.weight.0) 4294967295 outs (All-filter (λ e. e.source.0 == first + k) (λ (e : Edge). e.weight.0 ≤ 4294967295) edges light) in
@@ -70,14 +70,14 @@ tallied_as n spool told count many first infos same size had = rw (same, ← siz
 
 -- where Spool is told the edges of its list are tallied
 pub tallied_list : (n : ℕ) (spool : Option (List ℕ)) (count first : ℕ) (infos : List OutInfo) (list : List Edge) → HasTallied n spool count first infos → IsSpool n spool list → length list ≡ count →
-    infos ≡ map (leaving list) (range_with_len first (length infos))
+    infos ≡ map (out_info list) (range_with_len first (length infos))
 tallied_list n spool count first infos list had told many =
-    same_lists infos (map (leaving list) (range_with_len first (length infos)))
-    (sym (length-map (range_with_len first (length infos)) (leaving list) ∙ length-range first (length infos)))
+    same_lists infos (map (out_info list) (range_with_len first (length infos)))
+    (sym (length-map (range_with_len first (length infos)) (out_info list) ∙ length-range first (length infos)))
     (λ k d inside.
     let given = pass_whole n spool count had.given list had.passed told many in
     get_or_default infos k d no_info inside
     ∙ had.tallies.each k inside
-    ∙ ap (λ es. leaving es (first + k)) given
-    ∙ ap (leaving list) (sym (get_or-range first (length infos) k 0 inside))
-    ∙ sym (get_or-map (leaving list) (range_with_len first (length infos)) k 0 d (omega (arith, inside, length-range first (length infos)))))
+    ∙ ap (λ es. out_info es (first + k)) given
+    ∙ ap (out_info list) (sym (get_or-range first (length infos) k 0 inside))
+    ∙ sym (get_or-map (out_info list) (range_with_len first (length infos)) k 0 d (omega (arith, inside, length-range first (length infos)))))

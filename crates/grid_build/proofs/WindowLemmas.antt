@@ -7,15 +7,15 @@ use Rattle.std.proofs.lemmas.Bool.{false≢true}
 use Rattle.std.proofs.lemmas.List.{drop_all, map-append}
 use Rattle.std.proofs.lemmas.List.Concat.{flat_map-append}
 use Rattle.std.proofs.lemmas.List.Folds.{flat_map-map}
+use Rattle.lumos_base.specs.Leaving.{out_info}
 use Rattle.lumos_base.specs.Records.{info_bytes}
 use Rattle.lumos_base.specs.declared.records.Edge.{Edge}
 use Rattle.lumos_base.specs.declared.records.OutInfo.{OutInfo}
 use Rattle.lumos_depot.specs.Files.{overwritten}
-use Rattle.grid_format.specs.Grid.{leaving}
 use Rattle.grid_build.specs.Passes.{IsSpool}
 use Rattle.grid_build.specs.Tallied.{HasTallied, HasWritten}
 use Rattle.grid_build.proofs.InfoBytes.{length-infos, length-overwritten, written_next, written_none}
-use Rattle.grid_build.proofs.Moving.{told_by, told_more}
+use Rattle.lumos_depot.proofs.StepLemmas.{told_by, told_more}
 use Rattle.grid_build.proofs.TallyLemmas.{tallied_list}
 
 range-append : (a m n : ℕ) → range_with_len a (m + n) ≡ range_with_len a m ++ range_with_len (a + m) n
@@ -47,9 +47,9 @@ module _ (n : ℕ) (spool : Option (List ℕ)) (count : ℕ) where
         ∙ ap (λ bytes. option_map (overwritten 0 bytes) old) (sym (flat_map-append info_bytes had.infos infos));
     told = λ list told many.
         ap₂ ◌++◌ (had.told list told many) (tallied_list n spool count first infos list tallied told many)
-        ∙ sym (map-append (leaving list) (range_with_len 0 first) (range_with_len first (length infos)))
-        ∙ ap (map (leaving list)) (sym (range-append 0 first (length infos) ∙ ap (λ (k : ℕ). range_with_len 0 first ++ range_with_len k (length infos)) (let start : 0 + first ≡ first = omega arith in start)))
-        ∙ ap (λ (k : ℕ). map (leaving list) (range_with_len 0 (first + k))) size;
+        ∙ sym (map-append (out_info list) (range_with_len 0 first) (range_with_len first (length infos)))
+        ∙ ap (map (out_info list)) (sym (range-append 0 first (length infos) ∙ ap (λ (k : ℕ). range_with_len 0 first ++ range_with_len k (length infos)) (let start : 0 + first ≡ first = omega arith in start)))
+        ∙ ap (λ (k : ℕ). map (out_info list) (range_with_len 0 (first + k))) size;
   }
 
   -- the length of Info stays
@@ -60,9 +60,9 @@ module _ (n : ℕ) (spool : Option (List ℕ)) (count : ℕ) where
 
   -- all windows are written
   pub windows_whole : (old new : Option (List ℕ)) → HasWritten n spool count n old new → IfSome old (λ file. length file ≡ 12 * n) → (is_some old ≡ is_some spool) → (list : List Edge) → IsSpool n spool list → length list ≡ count →
-      new ≡ Some (flat_map (λ v. info_bytes (leaving list v)) (range_with_len 0 n))
+      new ≡ Some (flat_map (λ v. info_bytes (out_info list v)) (range_with_len 0 n))
   windows_whole None new had long both list told many = absurd (false≢true (both ∙ ap is_some told.bytes))
   windows_whole (Some file) new had long both list told many =
       let bytes = flat_map info_bytes had.infos in
       let rest : drop (0 + length bytes) file ≡ [] = drop_all (0 + length bytes) file (omega (arith, long, length-infos had.infos, had.whole)) in
-      had.written ∙ ap Some (ap (λ l. bytes ++ l) rest ∙ append-nil bytes ∙ ap (flat_map info_bytes) (had.told list told many) ∙ flat_map-map info_bytes (leaving list) (range_with_len 0 n))
+      had.written ∙ ap Some (ap (λ l. bytes ++ l) rest ∙ append-nil bytes ∙ ap (flat_map info_bytes) (had.told list told many) ∙ flat_map-map info_bytes (out_info list) (range_with_len 0 n))

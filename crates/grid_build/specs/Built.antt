@@ -13,7 +13,7 @@ use Rattle.edge_text.specs.declared.fault.TextLimits.{TextLimits}
 use Rattle.grid_format.specs.Checks.{GridFiles}
 use Rattle.grid_format.specs.Grid.{HasGrid, grid, grid_head}
 use Rattle.grid_format.specs.declared.head.GridInfo.{GridInfo}
-use Rattle.grid_build.specs.Outside.{RoseBy}
+use Rattle.lumos_depot.specs.Steps.{RoseBy}
 use Rattle.grid_build.specs.declared.options.BuildFault.{BuildFault}
 use Rattle.grid_build.specs.declared.options.BuildFault.TheVariants.{Input, TooManyEdges, InputTooLong, BudgetTooSmall, Read, Depot, NoMemory}
 use Rattle.grid_build.specs.declared.options.PartsChoice.{PartsChoice}

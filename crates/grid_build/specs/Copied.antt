@@ -7,7 +7,7 @@ use Rattle.lumos_depot.specs.declared.depot.FileKind.{FileKind}
 use Rattle.lumos_depot.specs.declared.depot.FileKind.TheVariants.{Primary, Secondary}
 use Rattle.partition.specs.Parts.{Cut}
 use Rattle.grid_format.specs.Tables.{BlockCounts, edges_in_rows, low_edges, primary_place_of}
-use Rattle.grid_build.specs.Outside.{RoseBy}
+use Rattle.lumos_depot.specs.Steps.{RoseBy}
 
 -- the blocks of a cut, with these numbers of edges
 abbrev pub cut_table : Cut → List ℕ → BlockCounts

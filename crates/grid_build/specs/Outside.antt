@@ -1,29 +1,7 @@
 -- What a step of the builder does to files and counts.
-use Rattle.std.specs.Prelude.{◌≡◌, ◌≢◌, ◌≤◌, ◌<◌, ◌+◌, ◌-◌, ◌^◌, ℕ, List, Option}
-use Rattle.lumos_depot.specs.Files.{Same, SameBut}
+use Rattle.std.specs.Prelude.{◌≡◌, ◌≢◌, ◌≤◌, ℕ, List, Option}
 use Rattle.lumos_depot.specs.declared.depot.FileKind.{FileKind}
 use Rattle.lumos_depot.specs.declared.depot.FileKind.TheVariants.{Primary, Values, Sums, Spool}
-
--- A counter of bytes rose by exactly n, where it stands below the end of its type.
-abbrev pub RoseBy : ℕ → ℕ → ℕ → Type 0
-RoseBy before after n = after < 2 ^ 64 - 1 → after ≡ before + n
-
--- A step read one file: no file and no other count changed, and the count of faults didn't fall.
-pub record Reads {D : Type 0} (h : D → FileKind → Option (List ℕ)) (t s : D → FileKind → ℕ) (f : D → ℕ) (a : D → Option (List ℕ)) (from : FileKind) (before after : D) : Type 0 where
-  pub attached : a after ≡ a before
-  pub contents : Same (h before) (h after)
-  pub taken : SameBut from (t before) (t after)
-  pub stored : Same (s before) (s after)
-  pub later : f before ≤ f after
-
--- A step read one file and changed one: no other file, nor what is counted for it, changed, and the count of faults
--- didn't fall.
-pub record Moves {D : Type 0} (h : D → FileKind → Option (List ℕ)) (t s : D → FileKind → ℕ) (f : D → ℕ) (a : D → Option (List ℕ)) (from into : FileKind) (before after : D) : Type 0 where
-  pub attached : a after ≡ a before
-  pub contents : SameBut into (h before) (h after)
-  pub taken : SameBut from (t before) (t after)
-  pub stored : SameBut into (s before) (s after)
-  pub later : f before ≤ f after
 
 -- What every step leaves: what is kept for runs, Values and Sums with what is counted for them, stays; nothing was read
 -- but from Spool and Primary; the count of faults didn't fall.

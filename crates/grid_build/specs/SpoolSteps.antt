@@ -9,7 +9,7 @@ use Rattle.edge_text.specs.Reader.{HasRead, ReaderState}
 use Rattle.edge_text.specs.Reading.{reading}
 use Rattle.edge_text.specs.declared.fault.TextFault.TheVariants as text
 use Rattle.edge_text.specs.declared.fault.TextLimits.{TextLimits}
-use Rattle.grid_build.specs.Outside.{RoseBy}
+use Rattle.lumos_depot.specs.Steps.{RoseBy}
 use Rattle.grid_build.specs.Spooling.{IsSpooled}
 use Rattle.grid_build.specs.declared.options.BuildFault.{BuildFault}
 use Rattle.grid_build.specs.declared.options.BuildFault.TheVariants as fault

@@ -1,13 +1,14 @@
 -- What stands between the steps of the builder.
 use Rattle.std.specs.Prelude.{◌≡◌, ◌*◌, ℕ, List, [], flat_map, length, sum, Option, Some, IfSome}
 use Rattle.std.specs.List.{range_with_len}
+use Rattle.lumos_base.specs.Leaving.{out_info}
 use Rattle.lumos_base.specs.Records.{edge_bytes, info_bytes}
 use Rattle.lumos_base.specs.declared.records.Edge.{Edge}
 use Rattle.lumos_depot.specs.declared.depot.FileKind.{FileKind}
 use Rattle.lumos_depot.specs.declared.depot.FileKind.TheVariants.{Meta, Primary, Secondary, Info}
 use Rattle.partition.specs.Blocks.{columns}
 use Rattle.partition.specs.Parts.{Cut, chunk_of}
-use Rattle.grid_format.specs.Grid.{leaving, low_columns}
+use Rattle.grid_format.specs.Grid.{low_columns}
 use Rattle.grid_build.specs.Numbered.{AreCounts}
 use Rattle.grid_build.specs.Passes.{IsSpool}
 
@@ -35,4 +36,4 @@ pub record AreSized (n count low : ℕ) (told : FileKind → Option (List ℕ)) 
 pub record AreFilled (cut : Cut) (list : List Edge) (told : FileKind → Option (List ℕ)) : Type 0 where
   pub primary_bytes : told Primary ≡ Some (flat_map edge_bytes (columns list (chunk_of cut) cut.parts))
   pub secondary_bytes : told Secondary ≡ Some (flat_map edge_bytes (low_columns list (chunk_of cut) cut.parts))
-  pub info_bytes_are : told Info ≡ Some (flat_map (λ v. info_bytes (leaving list v)) (range_with_len 0 cut.vertices))
+  pub info_bytes_are : told Info ≡ Some (flat_map (λ v. info_bytes (out_info list v)) (range_with_len 0 cut.vertices))

@@ -2,16 +2,12 @@
 use Rattle.std.specs.Prelude.{◌≡◌, ◌≤◌, ◌<◌, ◌+◌, ◌==◌, ◌^◌, ℕ, List, All, Option, flat_map, length, map, slice_index_or, if◌then◌else◌}
 use Rattle.std.specs.List.{range_with_len}
 use Rattle.std.specs.Option.{option_map}
+use Rattle.lumos_base.specs.Leaving.{no_info, out_info}
 use Rattle.lumos_base.specs.Records.{info_bytes}
 use Rattle.lumos_base.specs.declared.records.Edge.{Edge}
 use Rattle.lumos_base.specs.declared.records.OutInfo.{OutInfo}
 use Rattle.lumos_depot.specs.Files.{overwritten}
-use Rattle.grid_format.specs.Grid.{leaving}
 use Rattle.grid_build.specs.Passes.{IsPass, IsSpool}
-
--- nothing leads out
-abbrev pub no_info : OutInfo
-no_info = record { degree = 0; weight = 0 }
 
 -- what leads out of v, with one edge more
 abbrev pub with_edge : ℕ → Edge → OutInfo → OutInfo
@@ -30,7 +26,7 @@ IsLight e = e.weight.0 < 2 ^ 32
 -- this is what leads out of each vertex from `first` on by these edges
 pub record AreTallies (first : ℕ) (edges : List Edge) (infos : List OutInfo) : Type 0 where
   pub light : All IsLight edges
-  pub each : (k : ℕ) → k < length infos → slice_index_or infos k no_info ≡ leaving edges (first + k)
+  pub each : (k : ℕ) → k < length infos → slice_index_or infos k no_info ≡ out_info edges (first + k)
 
 -- it is that of some edges, and so many more can be added
 pub record HasTallies (first room : ℕ) (infos : List OutInfo) : Type 0 where
@@ -49,4 +45,4 @@ pub record HasWritten (n : ℕ) (spool : Option (List ℕ)) (count first : ℕ) 
   pub infos : List OutInfo
   pub whole : length infos ≡ first
   pub written : after ≡ option_map (overwritten 0 (flat_map info_bytes infos)) before
-  pub told : (list : List Edge) → IsSpool n spool list → length list ≡ count → infos ≡ map (leaving list) (range_with_len 0 first)
+  pub told : (list : List Edge) → IsSpool n spool list → length list ≡ count → infos ≡ map (out_info list) (range_with_len 0 first)

@@ -9,7 +9,8 @@ ghost use Rattle.grid_format.specs.Grid.{grid};
 ghost use Rattle.grid_format.specs.Heads.{IsHead, meta_bytes};
 ghost use Rattle.grid_build.specs.Built.{HasBuilt, HasFiles, StoresGrid, fault_of, parts_of};
 ghost use Rattle.grid_build.specs.Copied.{CopiesAll, low_total_of};
-ghost use Rattle.grid_build.specs.Outside.{LeavesRuns, RoseBy};
+ghost use Rattle.grid_build.specs.Outside.{LeavesRuns};
+ghost use Rattle.lumos_depot.specs.Steps.{RoseBy};
 ghost use Rattle.grid_build.specs.Passes.{IsSpool};
 ghost use Rattle.grid_build.specs.Steps.{AreFilled, AreSized, IsCounted, IsListed};
 

@@ -4,7 +4,7 @@ ghost use Rattle.lumos_depot.specs.Causes.{Rose};
 ghost use Rattle.lumos_depot.specs.Files.{HasDepotCause, range_at};
 ghost use Rattle.lumos_depot.specs.declared.depot.FileKind.{FileKind};
 ghost use Rattle.grid_build.specs.Copied.{HasCopied, cut_table, low_ranges, low_total_of};
-ghost use Rattle.grid_build.specs.Outside.{Moves, RoseBy};
+ghost use Rattle.lumos_depot.specs.Steps.{Moves, RoseBy};
 
 use crate::columns::column_edges;
 use lumos_depot::{Depot, DepotFault, Failed, FileKind};

@@ -4,7 +4,7 @@ ghost use Rattle.lumos_base.specs.declared.records.Edge.{Edge};
 ghost use Rattle.lumos_depot.specs.Causes.{Rose};
 ghost use Rattle.lumos_depot.specs.declared.depot.FileKind.{FileKind};
 ghost use Rattle.partition.specs.Blocks.{IsBelow};
-ghost use Rattle.grid_build.specs.Outside.{Reads};
+ghost use Rattle.lumos_depot.specs.Steps.{Reads};
 ghost use Rattle.grid_build.specs.Passes.{IsPass};
 
 use crate::bytes::get_edges;

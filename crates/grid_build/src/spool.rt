@@ -7,7 +7,7 @@ ghost use Rattle.lumos_depot.specs.Causes.{Rose};
 ghost use Rattle.lumos_depot.specs.Files.{HasDepotCause};
 ghost use Rattle.lumos_depot.specs.declared.depot.FileKind.{FileKind};
 ghost use Rattle.edge_text.specs.Reading.{greatest_end, vertices_of};
-ghost use Rattle.grid_build.specs.Outside.{Moves, RoseBy};
+ghost use Rattle.lumos_depot.specs.Steps.{Moves, RoseBy};
 ghost use Rattle.grid_build.specs.Spooling.{HasSpooled};
 ghost use Rattle.grid_build.specs.SpoolSteps.{EndsAs, HasPiece, IsSpooling, StopsAs, spool_fault, stop_of};
 

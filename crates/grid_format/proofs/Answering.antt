@@ -1,35 +1,13 @@
 -- Answers and changes, one call after another.
-use Rattle.std.proofs.Common.{◌≡◌, ℕ, List, Option, Result, Ok, Err, refl, ◌∙◌, arith}
-use Rattle.lumos_depot.specs.declared.depot.FileKind.{FileKind}
+use Rattle.std.proofs.Common.{◌≡◌, ℕ, Result, Ok, Err, refl}
 use Rattle.grid_format.specs.Checks.{◌>>=◌, in_meta}
 use Rattle.grid_format.specs.declared.counts.Mismatch.{Mismatch}
-use Rattle.grid_format.specs.Outside.{OnlyReads, Gives, FaultGives}
+use Rattle.grid_format.specs.Outside.{Gives, FaultGives}
 use Rattle.grid_format.specs.Tables.{IfDamaged}
-use Rattle.grid_format.specs.Writing.{OnlyWrites}
 use Rattle.grid_format.specs.declared.head.GridFault.{GridFault}
 use Rattle.grid_format.specs.declared.table.TableFault.{TableFault}
 use Rattle.grid_format.specs.declared.table.TableFault.TheVariants as table
 use Rattle.grid_format.specs.declared.head.GridFault.TheVariants.{NotAGrid, WrongVersion, BadLength, BadMeta, Depot}
-
-module _ {D : Type 0} (h : D → FileKind → Option (List ℕ)) (t s : D → FileKind → ℕ) (f : D → ℕ) (a : D → Option (List ℕ)) where
-  -- one call after another that only reads, or only writes Meta
-  pub reads_then : (x y z : D) → OnlyReads h t s f a x y → OnlyReads h t s f a y z → OnlyReads h t s f a x z
-  reads_then x y z p q = record {
-    attached = q.attached ∙ p.attached;
-    contents = λ kind. q.contents kind ∙ p.contents kind;
-    taken = λ kind apart. q.taken kind apart ∙ p.taken kind apart;
-    stored = λ kind. q.stored kind ∙ p.stored kind;
-    later = omega (arith, p.later, q.later);
-  }
-
-  pub writes_then : (x y z : D) → OnlyWrites h t s f a x y → OnlyWrites h t s f a y z → OnlyWrites h t s f a x z
-  writes_then x y z p q = record {
-    attached = q.attached ∙ p.attached;
-    contents = λ kind apart. q.contents kind apart ∙ p.contents kind apart;
-    taken = λ kind. q.taken kind ∙ p.taken kind;
-    stored = λ kind apart. q.stored kind apart ∙ p.stored kind apart;
-    later = omega (arith, p.later, q.later);
-  }
 
 -- counts that fit, as an answer about the grid
 pub in_meta-ok : {A : Type 0} (x : A) (first : Result A Mismatch) → in_meta first ≡ Ok x → first ≡ Ok x

@@ -1,9 +1,9 @@
 -- The files of a grid, from the list of its edges.
-use Rattle.std.specs.Prelude.{◌≡◌, ◌==◌, ◌<◌, ◌≤◌, ℕ, ◌-◌, ◌*◌, List, map, filter, flat_map, length, sum_by, All, Ok}
+use Rattle.std.specs.Prelude.{◌≡◌, ◌<◌, ◌≤◌, ℕ, ◌-◌, ◌*◌, List, map, flat_map, length, All, Ok}
 use Rattle.std.specs.List.{range_with_len}
+use Rattle.lumos_base.specs.Leaving.{out_info}
 use Rattle.lumos_base.specs.Records.{edge_bytes, info_bytes}
 use Rattle.lumos_base.specs.declared.records.Edge.{Edge}
-use Rattle.lumos_base.specs.declared.records.OutInfo.{OutInfo}
 use Rattle.lumos_depot.specs.Files.{range_at}
 use Rattle.partition.specs.Blocks.{IsBelow, block, columns}
 use Rattle.partition.specs.Parts.{chunk_size}
@@ -21,14 +21,6 @@ abbrev pub block_counts : List Edge → ℕ → ℕ → List ℕ
 block_counts edges c p =
     flat_map (λ j. map (λ i. length (block edges c i j)) (range_with_len 0 p)) (range_with_len 0 p)
 
--- the edges that lead out of v, in list order
-abbrev pub out_edges : List Edge → ℕ → List Edge
-out_edges edges v = filter (λ e. e.source.0 == v) edges
-
--- how many there are, and the sum of their weights
-abbrev pub leaving : List Edge → ℕ → OutInfo
-leaving edges v = record { degree = length (out_edges edges v); weight = sum_by (λ e. e.weight.0) (out_edges edges v) }
-
 -- the blocks of column j on the diagonal and below it, one after the other, where there are p parts
 abbrev pub low_column : List Edge → ℕ → ℕ → ℕ → List Edge
 low_column edges c j p = flat_map (λ i. block edges c i j) (range_with_len j (p - j))
@@ -44,7 +36,7 @@ grid edges n p = record {
   meta = meta_bytes (grid_head edges n p) (block_counts edges (chunk_size n p) p);
   primary = flat_map edge_bytes (columns edges (chunk_size n p) p);
   secondary = flat_map edge_bytes (low_columns edges (chunk_size n p) p);
-  info = flat_map (λ v. info_bytes (leaving edges v)) (range_with_len 0 n);
+  info = flat_map (λ v. info_bytes (out_info edges v)) (range_with_len 0 n);
 }
 
 -- The edges and the parts are within the limits of a grid.

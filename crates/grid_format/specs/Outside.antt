@@ -1,6 +1,5 @@
 -- What a call over a depot may answer and change.
 use Rattle.std.specs.Prelude.{◌≡◌, ◌≢◌, ◌≤◌, ◌<◌, ◌⊎◌, ⊤, ℕ, List, Option, Some, Result, Ok, Err}
-use Rattle.lumos_depot.specs.Files.{Same, SameBut}
 use Rattle.lumos_depot.specs.declared.depot.FileKind.{FileKind}
 use Rattle.lumos_depot.specs.declared.depot.FileKind.TheVariants.{Meta, Primary, Secondary, Info}
 use Rattle.grid_format.specs.Checks.{GridFiles}
@@ -13,14 +12,6 @@ pub record Holds (told : FileKind → Option (List ℕ)) (files : GridFiles) : T
   pub primary_file : told Primary ≡ Some files.primary
   pub secondary_file : told Secondary ≡ Some files.secondary
   pub info_file : told Info ≡ Some files.info
-
--- The call read Meta: no file and no other count changed, and the count of faults didn't fall.
-pub record OnlyReads {D : Type 0} (h : D → FileKind → Option (List ℕ)) (t s : D → FileKind → ℕ) (f : D → ℕ) (a : D → Option (List ℕ)) (old new : D) : Type 0 where
-  pub attached : a new ≡ a old
-  pub contents : Same (h old) (h new)
-  pub taken : SameBut Meta (t old) (t new)
-  pub stored : Same (s old) (s new)
-  pub later : f old ≤ f new
 
 -- a fact that is owed where the answer is that the depot failed
 abbrev pub FaultOwes : GridFault → Type 0 → Type 0

@@ -1,10 +1,8 @@
 -- A Meta that is being written: its first eight bytes come last.
-use Rattle.std.specs.Prelude.{◌≡◌, ◌≤◌, ◌⊎◌, ℕ, false, nat_eq, List, ◌++◌, replicate, Option, None, MatchOption, IfSome}
+use Rattle.std.specs.Prelude.{◌≡◌, ◌⊎◌, ℕ, false, nat_eq, List, ◌++◌, replicate, Option, None, MatchOption, IfSome}
 use Rattle.std.specs.List.{flat_map, starts_with}
 use Rattle.std.specs.Option.{option_map}
-use Rattle.lumos_depot.specs.Files.{Same, SameBut, overwritten}
-use Rattle.lumos_depot.specs.declared.depot.FileKind.{FileKind}
-use Rattle.lumos_depot.specs.declared.depot.FileKind.TheVariants.{Meta}
+use Rattle.lumos_depot.specs.Files.{overwritten}
 use Rattle.grid_format.specs.Heads.{field, head_fields, magic}
 use Rattle.grid_format.specs.declared.head.GridInfo.{GridInfo}
 
@@ -24,11 +22,3 @@ Unmarked told = IfSome told (λ meta. starts_with nat_eq meta magic ≡ false)
 abbrev pub MarkedWhole : Option (List ℕ) → Option (List ℕ) → Type 0
 MarkedWhole old new = MatchOption old (new ≡ None) (λ file.
     IfSome new (λ meta. (starts_with nat_eq meta magic ≡ false) ⊎ (meta ≡ overwritten 0 magic file)))
-
--- The call wrote Meta: no other file and no other count changed, and the count of faults didn't fall.
-pub record OnlyWrites {D : Type 0} (h : D → FileKind → Option (List ℕ)) (t s : D → FileKind → ℕ) (f : D → ℕ) (a : D → Option (List ℕ)) (old new : D) : Type 0 where
-  pub attached : a new ≡ a old
-  pub contents : SameBut Meta (h old) (h new)
-  pub taken : Same (t old) (t new)
-  pub stored : SameBut Meta (s old) (s new)
-  pub later : f old ≤ f new

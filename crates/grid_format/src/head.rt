@@ -5,7 +5,8 @@ ghost use Rattle.lumos_depot.specs.Files.{range_at};
 ghost use Rattle.lumos_depot.specs.declared.depot.FileKind.{FileKind};
 ghost use Rattle.grid_format.specs.Checks.{GridFiles, added, counted, fields_of, files_sized, head_of, in_meta, judged, sized, table_of};
 ghost use Rattle.grid_format.specs.Heads.{IsHead, counts_of, head_at, meta_length, number_at, numbers};
-ghost use Rattle.grid_format.specs.Outside.{DepotOwes, FaultGives, Gives, Holds, OnlyReads, Shows};
+ghost use Rattle.grid_format.specs.Outside.{DepotOwes, FaultGives, Gives, Holds, Shows};
+ghost use Rattle.lumos_depot.specs.Steps.{Reads};
 ghost use Rattle.grid_format.specs.Tables.{low_edges};
 
 use crate::bytes::{begins_grid, number_of_eight, number_of_four};
@@ -111,7 +112,7 @@ fn read_fields<D: Depot>(depot: &mut D, size: u64) -> Result<GridInfo, GridFault
     ensures told { (meta : List ℕ) → D.holds depot.old FileKind.Meta ≡ Some meta → Gives result (fields_of meta) }
     ensures limits { IfOk result IsHead }
     ensures shown { IfErr result Shows }
-    ensures reads { OnlyReads D.holds D.taken D.stored D.faults D.attached depot.old depot.new }
+    ensures reads { Reads D.holds D.taken D.stored D.faults D.attached FileKind.Meta depot.old depot.new }
     ensures cause { DepotOwes result (Rose (D.faults depot.old) (D.faults depot.new)) }
 {
     if size < 8 {
@@ -143,7 +144,7 @@ fn check_size<D: Depot>(depot: &mut D, kind: FileKind, want: u64) -> Result<(), 
     requires { IsSome (D.attached depot.old) }
     ensures told { (file : List ℕ) → D.holds depot.old kind ≡ Some file → Gives result (sized kind want (length file)) }
     ensures shown { IfErr result Shows }
-    ensures reads { OnlyReads D.holds D.taken D.stored D.faults D.attached depot.old depot.new }
+    ensures reads { Reads D.holds D.taken D.stored D.faults D.attached FileKind.Meta depot.old depot.new }
     ensures cause { DepotOwes result (Rose (D.faults depot.old) (D.faults depot.new)) }
 {
     let Ok(found) = length_of(depot, kind) else {
@@ -167,7 +168,7 @@ fn check_files<D: Depot>(depot: &mut D, info: GridInfo, low: u64) -> Result<(), 
     requires low { (files : GridFiles) → Holds (D.holds depot.old) files → low ≡ low_edges (table_of info.parts files.meta) info.parts }
     ensures told { (files : GridFiles) → Holds (D.holds depot.old) files → Gives result (files_sized info files) }
     ensures shown { IfErr result Shows }
-    ensures reads { OnlyReads D.holds D.taken D.stored D.faults D.attached depot.old depot.new }
+    ensures reads { Reads D.holds D.taken D.stored D.faults D.attached FileKind.Meta depot.old depot.new }
     ensures cause { DepotOwes result (Rose (D.faults depot.old) (D.faults depot.new)) }
 {
     check_size(depot, FileKind::Primary, 12 * info.edges)?;
@@ -196,7 +197,7 @@ fn check_column<D: Depot>(
     ensures column { OnOk result ((meta : List ℕ) → D.holds depot.old FileKind.Meta ≡ Some meta → column.new ≡ range_at place (8 * parts) meta) }
     ensures total { IfOk result (λ total. total ≡ before + sum (numbers 0 parts column.new)) }
     ensures shown { IfErr result Shows }
-    ensures reads { OnlyReads D.holds D.taken D.stored D.faults D.attached depot.old depot.new }
+    ensures reads { Reads D.holds D.taken D.stored D.faults D.attached FileKind.Meta depot.old depot.new }
     ensures cause { DepotOwes result (Rose (D.faults depot.old) (D.faults depot.new)) }
 {
     let Ok(()) = fill(depot, place, column) else {
@@ -228,7 +229,7 @@ fn check_columns<D: Depot>(
     ensures failed { IfErr result (λ fault. (meta : List ℕ) → D.holds depot.old FileKind.Meta ≡ Some meta
         → FaultGives fault (in_meta (counted info.edges (counts_of info.parts meta)))) }
     ensures shown { IfErr result Shows }
-    ensures reads { OnlyReads D.holds D.taken D.stored D.faults D.attached depot.old depot.new }
+    ensures reads { Reads D.holds D.taken D.stored D.faults D.attached FileKind.Meta depot.old depot.new }
     ensures cause { DepotOwes result (Rose (D.faults depot.old) (D.faults depot.new)) }
 {
     let parts = info.parts as usize;
@@ -263,7 +264,7 @@ pub fn read_head<D: Depot>(depot: &mut D) -> Result<GridInfo, GridFault>
     ensures told { (files : GridFiles) → Holds (D.holds depot.old) files → Gives result (head_of files) }
     ensures limits { IfOk result IsHead }
     ensures shown { IfErr result Shows }
-    ensures reads { OnlyReads D.holds D.taken D.stored D.faults D.attached depot.old depot.new }
+    ensures reads { Reads D.holds D.taken D.stored D.faults D.attached FileKind.Meta depot.old depot.new }
     ensures cause { DepotOwes result (Rose (D.faults depot.old) (D.faults depot.new)) }
 {
     let Ok(size) = length_of(depot, FileKind::Meta) else {

@@ -4,7 +4,8 @@ ghost use Rattle.lumos_depot.specs.Causes.{Rose};
 ghost use Rattle.lumos_depot.specs.declared.depot.FileKind.{FileKind};
 ghost use Rattle.grid_format.specs.Checks.{GridFiles, added, counted, head_of};
 ghost use Rattle.grid_format.specs.Heads.{IsHead, counts_of, meta_length, numbers};
-ghost use Rattle.grid_format.specs.Outside.{Holds, OnlyReads};
+ghost use Rattle.grid_format.specs.Outside.{Holds};
+ghost use Rattle.lumos_depot.specs.Steps.{Reads};
 ghost use Rattle.grid_format.specs.Tables.{ArePlaces, AreStarts, IfDamaged, IsWrongCount, OnDepotFault, block_place, count_at, primary_place_of, secondary_place_of};
 
 use crate::bytes::number_of_eight;
@@ -145,7 +146,7 @@ fn load_column<D: Depot>(
         (32 ≤ p) × (0 < n) × ((meta : List ℕ) → D.holds depot.old FileKind.Meta ≡ Some meta
         → added edges place before (numbers place parts meta) ≡ Err (record { place = p; found = n })))) }
     ensures memory { IsErrOf result TableFault.NoMemory → ⊥ }
-    ensures reads { OnlyReads D.holds D.taken D.stored D.faults D.attached depot.old depot.new }
+    ensures reads { Reads D.holds D.taken D.stored D.faults D.attached FileKind.Meta depot.old depot.new }
 {
     let Ok(()) = fill(depot, place, column) else {
         return Err(TableFault::Depot);
@@ -184,7 +185,7 @@ fn load_columns<D: Depot>(
         IsWrongCount info.edges p n × ((meta : List ℕ) → D.holds depot.old FileKind.Meta ≡ Some meta
         → counted info.edges (counts_of info.parts meta) ≡ Err (record { place = p; found = n })))) }
     ensures memory { IsErrOf result TableFault.NoMemory → ⊥ }
-    ensures reads { OnlyReads D.holds D.taken D.stored D.faults D.attached depot.old depot.new }
+    ensures reads { Reads D.holds D.taken D.stored D.faults D.attached FileKind.Meta depot.old depot.new }
 {
     let parts = info.parts as usize;
     let mut total = 0;
@@ -222,7 +223,7 @@ impl BlockTable {
         ensures damaged { IfErr result (λ fault. IfDamaged fault (λ p n.
             IsWrongCount info.edges p n × (D.holds depot.old FileKind.Meta ≡ None))) }
         ensures memory { IsErrOf result TableFault.NoMemory → depot.new ≡ depot.old }
-        ensures reads { OnlyReads D.holds D.taken D.stored D.faults D.attached depot.old depot.new }
+        ensures reads { Reads D.holds D.taken D.stored D.faults D.attached FileKind.Meta depot.old depot.new }
     {
         let parts = info.parts as usize;
         let Ok(mut counts) = Vec::with_capacity(alloc, parts * parts) else {

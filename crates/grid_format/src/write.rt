@@ -5,7 +5,8 @@ ghost use Rattle.std.specs.Option.{option_map};
 ghost use Rattle.lumos_depot.specs.Files.{HasDepotCause, overwritten};
 ghost use Rattle.lumos_depot.specs.declared.depot.FileKind.{FileKind};
 ghost use Rattle.grid_format.specs.Heads.{IsHead, field, head_fields, magic, meta_bytes, meta_length};
-ghost use Rattle.grid_format.specs.Writing.{IsMeta, MarkedWhole, OnlyWrites, Unmarked, unfinished};
+ghost use Rattle.grid_format.specs.Writing.{IsMeta, MarkedWhole, Unmarked, unfinished};
+ghost use Rattle.lumos_depot.specs.Steps.{Stores};
 
 use crate::bytes::{eight_bytes, four_bytes, magic_bytes, put};
 use crate::head::GridInfo;
@@ -43,7 +44,7 @@ fn write_behind<D: Depot>(depot: &mut D, place: u64, bytes: &[u8]) -> Result<(),
     requires unmarked { Unmarked (D.holds depot.old FileKind.Meta) }
     ensures value { OnOk result (D.holds depot.new FileKind.Meta ≡ option_map (overwritten place bytes.now) (D.holds depot.old FileKind.Meta)) }
     ensures refused { OnErr result (Unmarked (D.holds depot.new FileKind.Meta)) }
-    ensures writes { OnlyWrites D.holds D.taken D.stored D.faults D.attached depot.old depot.new }
+    ensures writes { Stores D.holds D.taken D.stored D.faults D.attached FileKind.Meta depot.old depot.new }
     ensures cause { HasDepotCause (D.faults depot.old) (D.faults depot.new) result }
     ensures failed { OnErr result (result ≡ Err DepotFault.Failed) }
 {
@@ -62,7 +63,7 @@ fn begin_meta<D: Depot>(depot: &mut D, info: GridInfo) -> Result<(), DepotFault>
         ≡ option_map (λ _. unfinished info [] (8 * (info.parts * info.parts))) (D.holds depot.old FileKind.Meta)) }
     ensures refused { OnErr result (Unmarked (D.holds depot.new FileKind.Meta)) }
     ensures memory { IsErrOf result DepotFault.NoMemory → D.holds depot.new FileKind.Meta ≡ D.holds depot.old FileKind.Meta }
-    ensures writes { OnlyWrites D.holds D.taken D.stored D.faults D.attached depot.old depot.new }
+    ensures writes { Stores D.holds D.taken D.stored D.faults D.attached FileKind.Meta depot.old depot.new }
     ensures cause { HasDepotCause (D.faults depot.old) (D.faults depot.new) result }
 {
     let parts = info.parts as usize;
@@ -84,7 +85,7 @@ fn write_columns<D: Depot>(
     requires begun { IsMeta (D.holds depot.old FileKind.Meta) (unfinished info [] (8 * (info.parts * info.parts))) }
     ensures value { OnOk result (D.holds depot.new FileKind.Meta ≡ option_map (λ _. unfinished info counts.now 0) (D.holds depot.old FileKind.Meta)) }
     ensures refused { OnErr result (Unmarked (D.holds depot.new FileKind.Meta)) }
-    ensures writes { OnlyWrites D.holds D.taken D.stored D.faults D.attached depot.old depot.new }
+    ensures writes { Stores D.holds D.taken D.stored D.faults D.attached FileKind.Meta depot.old depot.new }
     ensures cause { HasDepotCause (D.faults depot.old) (D.faults depot.new) result }
     ensures failed { OnErr result (result ≡ Err DepotFault.Failed) }
 {
@@ -105,7 +106,7 @@ fn mark_meta<D: Depot>(depot: &mut D) -> Result<(), DepotFault>
     requires long { IfSome (D.holds depot.old FileKind.Meta) (λ meta. 8 ≤ length meta) }
     ensures value { OnOk result (D.holds depot.new FileKind.Meta ≡ option_map (overwritten 0 magic) (D.holds depot.old FileKind.Meta)) }
     ensures refused { OnErr result (MarkedWhole (D.holds depot.old FileKind.Meta) (D.holds depot.new FileKind.Meta)) }
-    ensures writes { OnlyWrites D.holds D.taken D.stored D.faults D.attached depot.old depot.new }
+    ensures writes { Stores D.holds D.taken D.stored D.faults D.attached FileKind.Meta depot.old depot.new }
     ensures cause { HasDepotCause (D.faults depot.old) (D.faults depot.new) result }
     ensures failed { OnErr result (result ≡ Err DepotFault.Failed) }
 {
@@ -130,7 +131,7 @@ pub fn write_meta<D: Depot>(depot: &mut D, info: GridInfo, counts: &[u64]) -> Re
     ensures refused { OnErr result (IfSome (D.holds depot.new FileKind.Meta) (λ meta.
         (starts_with nat_eq meta magic ≡ false) ⊎ (meta ≡ meta_bytes info counts.now))) }
     ensures memory { IsErrOf result DepotFault.NoMemory → D.holds depot.new FileKind.Meta ≡ D.holds depot.old FileKind.Meta }
-    ensures writes { OnlyWrites D.holds D.taken D.stored D.faults D.attached depot.old depot.new }
+    ensures writes { Stores D.holds D.taken D.stored D.faults D.attached FileKind.Meta depot.old depot.new }
     ensures cause { HasDepotCause (D.faults depot.old) (D.faults depot.new) result }
 {
     begin_meta(depot, info)?;

@@ -1,4 +1,5 @@
 pub mod ByteLaws
 pub mod Bytes
+pub mod Leaving
 pub mod RecordLaws
 pub mod Records

@@ -1,3 +1,4 @@
 pub mod FileKinds
 pub mod Pieces
+pub mod StepLemmas
 pub mod Written

@@ -2,11 +2,12 @@
 use Rattle.std.proofs.Common.{◌≡◌, ◌==◌, ℕ, zero, suc, ◌<◌, ◌≤◌, ◌^◌, Bool, true, false, cond, List, [], ◌∷◌, map, filter, fold, length, refl, sym, ap, ap₂, ◌∙◌, IsPermutation}
 use Rattle.std.specs.List.{AllByRecursion}
 use Rattle.std.proofs.lemmas.List.Sorted.{IsPermutation-refl, IsPermutation-trans, IsPermutation-cons, IsPermutation-map, length_permutation, sum_by-IsPermutation}
+use Rattle.lumos_base.specs.Leaving.{out_info}
 use Rattle.lumos_base.specs.declared.records.Edge.{Edge}
 use Rattle.lumos_base.specs.declared.records.OutInfo.{OutInfo}
 use Rattle.lumos_base.specs.Records.{IsEdge}
 use Rattle.lumos_law.specs.Program.{Program, Lawful}
-use Rattle.lumos_law.specs.Sync.{edges_into, out_info, contributions, sum_at, values}
+use Rattle.lumos_law.specs.Sync.{edges_into, contributions, sum_at, values}
 use Rattle.lumos_law.proofs.Permutations.{along_permutation, head_turned}
 use Rattle.lumos_law.proofs.JoinLemmas.{join_from-permutation}
 use Rattle.lumos_law.proofs.SumLemmas.{given_in}

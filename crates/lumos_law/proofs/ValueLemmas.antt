@@ -2,10 +2,11 @@
 use Rattle.std.proofs.Common.{◌==◌, ℕ, zero, suc, ◌*◌, ◌<◌, ◌≤◌, ◌^◌, Bool, true, false, cond, List, [], ◌∷◌, filter, sum_by, length, arith}
 use Rattle.std.specs.List.{AllByRecursion}
 use Rattle.std.proofs.lemmas.List.Sums.{sum_by-cons}
+use Rattle.lumos_base.specs.Leaving.{edges_from, out_info}
 use Rattle.lumos_base.specs.declared.records.Edge.{Edge}
 use Rattle.lumos_base.specs.Records.{IsEdge, IsOutInfo}
 use Rattle.lumos_law.specs.Program.{Program, Lawful}
-use Rattle.lumos_law.specs.Sync.{edges_from, out_info, contributions, sum_at, values}
+use Rattle.lumos_law.specs.Sync.{contributions, sum_at, values}
 use Rattle.lumos_law.proofs.JoinLemmas.{join_from_in}
 use Rattle.lumos_law.proofs.SumLemmas.{all-filter, given_in}
 

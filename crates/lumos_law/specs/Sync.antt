@@ -1,22 +1,14 @@
 -- Synchronous execution, by folds over the whole list of edges.
-use Rattle.std.specs.Prelude.{◌≡◌, ◌==◌, ℕ, zero, suc, ◌+◌, Bool, List, map, filter, length, sum_by, count_by, Option, Some, None, find, slice_index_or, ◌<◌}
+use Rattle.std.specs.Prelude.{◌≡◌, ◌==◌, ℕ, zero, suc, ◌+◌, Bool, List, map, filter, length, count_by, Option, Some, None, find, slice_index_or, ◌<◌}
 use Rattle.std.specs.List.{range_with_len}
+use Rattle.lumos_base.specs.Leaving.{out_info}
 use Rattle.lumos_base.specs.declared.records.Edge.{Edge}
-use Rattle.lumos_base.specs.declared.records.OutInfo.{OutInfo}
 use Rattle.lumos_law.specs.Joins.{join_from}
 use Rattle.lumos_law.specs.Program.{Program}
-
--- the edges whose source is v, in list order
-abbrev pub edges_from : List Edge → ℕ → List Edge
-edges_from edges v = filter (λ e. e.source.0 == v) edges
 
 -- the edges whose target is v, in list order
 abbrev pub edges_into : List Edge → ℕ → List Edge
 edges_into edges v = filter (λ e. e.target.0 == v) edges
-
--- how many edges lead out of v, and the sum of their weights
-abbrev pub out_info : List Edge → ℕ → OutInfo
-out_info edges v = record { degree = length (edges_from edges v); weight = sum_by (λ e. e.weight.0) (edges_from edges v) }
 
 module _ {V S : Type 0} (p : Program V S) where
   -- what the edges into v contribute where each vertex u has the value `state u`, in list order

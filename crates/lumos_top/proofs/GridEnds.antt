@@ -14,13 +14,14 @@ use Rattle.edge_text.specs.Reading.{Listed, reading}
 use Rattle.edge_text.specs.declared.fault.TextLimits.{TextLimits}
 use Rattle.grid_format.specs.Checks.{GridFiles, head_of}
 use Rattle.grid_format.specs.Grid.{HasGrid, IsRead, grid, grid_head}
-use Rattle.grid_format.specs.Outside.{Holds, OnlyReads}
+use Rattle.grid_format.specs.Outside.{Holds}
+use Rattle.lumos_depot.specs.Steps.{Reads, RoseBy}
 use Rattle.partition.specs.Parts.{Cut}
 use Rattle.grid_format.specs.declared.head.GridInfo.{GridInfo}
 use Rattle.grid_build.specs.Built.{HasFiles, IsBuilt}
-use Rattle.grid_build.specs.Outside.{LeavesRuns as BuildLeaves, RoseBy}
+use Rattle.grid_build.specs.Outside.{LeavesRuns as BuildLeaves}
 use Rattle.grid_build.proofs.Building.{AreLimits, list_within}
-use Rattle.grid_build.proofs.Moving.{rose_then}
+use Rattle.lumos_depot.proofs.StepLemmas.{rose_then}
 use Rattle.lumos_law.specs.Program.{Program}
 use Rattle.lumos_law.specs.Sync.{ending}
 use Rattle.lumos_report.specs.declared.records.Ending.{Ending as EndingRecord}
@@ -464,7 +465,7 @@ module _ {D : Type 0} (h : D → FileKind → Option (List ℕ)) (t s : D → Fi
     sums_stored = b.sums_stored;
   }
 
-  pub open_leaves : (old new : D) → OnlyReads h t s f a old new → LeavesRuns h t s old new
+  pub open_leaves : (old new : D) → Reads h t s f a Meta old new → LeavesRuns h t s old new
   open_leaves old new b = record {
     values = b.contents Values;
     sums = b.contents Sums;

@@ -6,7 +6,7 @@ ghost use Rattle.lumos_depot.specs.declared.depot.FileKind.{FileKind};
 ghost use Rattle.edge_text.specs.Reading.{reading};
 ghost use Rattle.lumos_top.specs.Outcome.{did_build, done_with};
 ghost use Rattle.lumos_top.specs.Report.{grid_line};
-ghost use Rattle.grid_build.specs.Outside.{RoseBy};
+ghost use Rattle.lumos_depot.specs.Steps.{RoseBy};
 ghost use Rattle.grid_format.specs.Heads.{IsHead};
 ghost use Rattle.lumos_top.specs.Running.{HasDone, HasGridBuilt, IsAttached, LeavesRuns, TakesAs, TextFits, stop_of};
 

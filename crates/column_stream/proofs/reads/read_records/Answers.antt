@@ -5,7 +5,8 @@ use Rattle.std.proofs.lemmas.List.Elements.{All-append}
 use Rattle.std.proofs.lemmas.Slice.{take-put_mid}
 use Rattle.lumos_base.specs.declared.records.Edge.{Edge}
 use Rattle.column_stream.specs.Records.{FaultIs, Fits, edges_at, first_fault}
-use Rattle.column_stream.proofs.ReadLemmas.{damage_then, edges_then, fault_then, part_length, reads_then, rose_then, sound_then, told_more, told_same}
+use Rattle.column_stream.proofs.ReadLemmas.{damage_then, edges_then, fault_then, part_length, sound_then}
+use Rattle.lumos_depot.proofs.StepLemmas.{reads_then, rose_then, told_more, told_same}
 use Rattle.column_stream.proofs.reads.read_records.Goals as goal
 
 pub loop-done-preserved : goal.loop-done-preserved
@@ -30,9 +31,9 @@ loop-done-preserved g c =
       reads = reads_then g.D.Depot.holds g.D.Depot.taken g.D.Depot.stored g.D.Depot.faults g.D.Depot.attached file _ _ _ had.reads c.in-Ok.ensures.reads;
       edges = told_more told (λ held. take done out ++ new ≡ edges_at place past held) _ (λ held is. part ∙ is)
           (edges_then told place done m past (take done out) new whole had.edges
-          (told_same told now (λ held. new ≡ edges_at (place + 12 * done) m held) same c.in-Ok.ensures.edges));
+          (told_same now told (λ held. new ≡ edges_at (place + 12 * done) m held) (sym same) c.in-Ok.ensures.edges));
       sound = sound_then told file ends place done m past whole had.sound
-          (told_same told now (λ held. first_fault file ends (place + 12 * done) (edges_at (place + 12 * done) m held) ≡ None) same c.in-Ok.ensures.fault);
+          (told_same now told (λ held. first_fault file ends (place + 12 * done) (edges_at (place + 12 * done) m held) ≡ None) (sym same) c.in-Ok.ensures.fault);
       fits = subst (All (Fits ends)) (sym part) (All-append (Fits ends) (take done out) new had.fits c.in-Ok.ensures.fits);
       taken = λ below. omega (arith, rose_then _ _ _ (12 * done) (12 * m) had.taken c.in-Ok.ensures.taken below, whole);
       most = omega (arith, had.most, c.in-Ok.ensures.most, whole);
@@ -50,7 +51,7 @@ returns-in-Err-clause-fault g c =
     let now = g.D.Depot.holds c.loop-done.depot file in
     let told = g.D.Depot.holds c.args.depot.now file in
     fault_then (Unit {0}) (Unit {0}) told file ends c.args.place done m (length c.args.out.now) c.in-Err.fault (omega (arith, size, c.loop-done.auto.out)) c.loop-done.invariant.sound
-    (told_same told now (λ held. FaultIs {T = Unit {0}} (Err c.in-Err.fault) (first_fault file ends from (edges_at from m held))) (c.loop-done.invariant.reads.contents file) c.in-Err.ensures.fault)
+    (told_same now told (λ held. FaultIs {T = Unit {0}} (Err c.in-Err.fault) (first_fault file ends from (edges_at from m held))) (sym (c.loop-done.invariant.reads.contents file)) c.in-Err.ensures.fault)
 
 pub returns-in-Err-clause-damaged : goal.returns-in-Err-clause-damaged
 returns-in-Err-clause-damaged g c =

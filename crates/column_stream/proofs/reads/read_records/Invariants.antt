@@ -1,6 +1,6 @@
 use Rattle.std.proofs.Common.{◌≡◌, ◌≤◌, ◌+◌, ◌-◌, ◌*◌, None, length, take}
 use Rattle.std.specs.Prelude.{All, IfSome}
-use Rattle.value_files.specs.Outside.{Reads, RoseBy}
+use Rattle.lumos_depot.specs.Steps.{Reads, RoseBy}
 use Rattle.column_stream.specs.Records.{Fits, edges_at, first_fault}
 use Rattle.column_stream.proofs.reads.read_records.Given as goal
 

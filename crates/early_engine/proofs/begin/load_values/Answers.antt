@@ -5,9 +5,9 @@ use Rattle.std.proofs.lemmas.Slice.{take-put_mid}
 use Rattle.lumos_depot.specs.Files.{range_at}
 use Rattle.lumos_depot.specs.declared.depot.FileKind.TheVariants.{Info}
 use Rattle.lumos_law.specs.Sync.{IsChunk}
-use Rattle.value_files.specs.Outside.{Reads}
+use Rattle.lumos_depot.specs.Steps.{Reads}
 use Rattle.early_engine.specs.Starts.{given_values}
-use Rattle.early_engine.proofs.Moving.{raised_rose, reads_then, rose_then, told_both, told_same}
+use Rattle.lumos_depot.proofs.StepLemmas.{raised_rose, reads_then, rose_whole, told_with, told_same}
 use Rattle.early_engine.proofs.StartLemmas.{given_more}
 use Rattle.early_engine.proofs.begin.load_values.Goals as goal
 
@@ -36,8 +36,8 @@ loop-done-preserved g c =
     record {
       within = grind (arith, common_steps);
       reads = reads_then g.D.Depot.holds g.D.Depot.taken g.D.Depot.stored g.D.Depot.faults g.D.Depot.attached Info _ _ _ kept.reads step;
-      given = told_both told (λ file. IsChunk (given_values p file) 0 (take done values)) (λ file. c.read_at.new.buf ≡ range_at (12 * done) room file) _
+      given = told_with told (λ file. IsChunk (given_values p file) 0 (take done values)) (λ file. c.read_at.new.buf ≡ range_at (12 * done) room file) _
           (λ file before is. subst (IsChunk (given_values p file) 0) (sym part)
           (given_more p file c.read_at.new.buf values new done (past - done) past room (omega arith) long size is kept.within before c.set_values.ensures)) kept.given read;
-      taken = rose_then _ _ _ (12 * done) room (12 * past) (omega (arith, size)) kept.taken (raised_rose _ _ room c.in-Ok.ensures.counted);
+      taken = rose_whole _ _ _ (12 * done) room (12 * past) (omega (arith, size)) kept.taken (raised_rose _ _ room c.in-Ok.ensures.counted);
     }

@@ -2,7 +2,7 @@ use Rattle.std.proofs.Common.{◌≤◌, ◌-◌, ◌*◌, length, take}
 use Rattle.std.specs.Prelude.{IfSome}
 use Rattle.lumos_depot.specs.declared.depot.FileKind.TheVariants.{Info}
 use Rattle.lumos_law.specs.Sync.{IsChunk}
-use Rattle.value_files.specs.Outside.{Reads, RoseBy}
+use Rattle.lumos_depot.specs.Steps.{Reads, RoseBy}
 use Rattle.early_engine.specs.Starts.{given_values}
 use Rattle.early_engine.proofs.begin.load_values.Given as goal
 

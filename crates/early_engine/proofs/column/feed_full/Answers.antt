@@ -7,7 +7,7 @@ use Rattle.early_engine.specs.Passes.{bytes_of, place_at, tally_of}
 use Rattle.early_engine.specs.Steps.{needs_by}
 use Rattle.early_engine.proofs.FeedLemmas.{fed_as, fed_none}
 use Rattle.early_engine.proofs.GridLemmas.{blocks_same, on_grid_same}
-use Rattle.early_engine.proofs.Moving.{reads_none, reads_then, rose_then}
+use Rattle.lumos_depot.proofs.StepLemmas.{reads_none, reads_then, rose_whole}
 use Rattle.early_engine.proofs.PassLemmas.{bytes_both, rows_from, rows_more}
 use Rattle.early_engine.proofs.column.feed_full.Goals as goal
 
@@ -61,7 +61,7 @@ loop-i-preserved g c =
       taken = λ edges t grid ready.
           let here = on_grid_same edges cut table _ _ kept.reads.contents grid in
           let need = needs_by p edges cut c.args.ahead t in
-          rose_then _ _ _ (bytes_of edges (chunk_of cut) need (rows_from 0 i j)) (bytes_of edges (chunk_of cut) need (place_at i j ∷ [])) _
+          rose_whole _ _ _ (bytes_of edges (chunk_of cut) need (rows_from 0 i j)) (bytes_of edges (chunk_of cut) need (place_at i j ∷ [])) _
           (ap (bytes_of edges (chunk_of cut) need) (rows_more 0 i i j at) ∙ bytes_both edges (chunk_of cut) need (rows_from 0 i j) (place_at i j ∷ [])) (kept.taken edges t grid ready) (next.taken edges t here ready);
     }
 

@@ -8,7 +8,7 @@ use Rattle.early_engine.specs.Steps.{needs_by}
 use Rattle.early_engine.proofs.FeedLemmas.{fed_as}
 use Rattle.early_engine.proofs.GridLemmas.{blocks_same, on_grid_same}
 use Rattle.early_engine.proofs.HotLemmas.{need_alone}
-use Rattle.early_engine.proofs.Moving.{reads_none, reads_then, rose_then}
+use Rattle.lumos_depot.proofs.StepLemmas.{reads_none, reads_then, rose_whole}
 use Rattle.early_engine.proofs.PassLemmas.{bytes_both, rows_from, rows_more}
 use Rattle.early_engine.proofs.column.feed_rest.Goals as goal
 
@@ -67,7 +67,7 @@ loop-i-preserved g c =
           let here = on_grid_same edges cut table _ _ kept.reads.contents grid in
           let need = needs_by p edges cut false t in
           let needed = need_alone c.needed_fed-hot.result (is_hot p edges cut.vertices cut.parts t i) (c.needed_fed-hot.ensures ∙ hot i row) in
-          rose_then _ _ _ (bytes_of edges (chunk_of cut) need (rows_from j (i - j) j)) (bytes_of edges (chunk_of cut) need (place_at i j ∷ [])) _
+          rose_whole _ _ _ (bytes_of edges (chunk_of cut) need (rows_from j (i - j) j)) (bytes_of edges (chunk_of cut) need (place_at i j ∷ [])) _
           (ap (bytes_of edges (chunk_of cut) need) more ∙ bytes_both edges (chunk_of cut) need (rows_from j (i - j) j) (place_at i j ∷ [])) (kept.taken edges t grid hot) (next.taken edges need here needed);
     }
 

@@ -4,7 +4,7 @@ use Rattle.lumos_depot.specs.declared.depot.FileKind.TheVariants.{Secondary}
 use Rattle.lumos_law.specs.Sync.{values, IsChunk}
 use Rattle.lumos_report.specs.declared.records.Kind.TheVariants.{Fed}
 use Rattle.partition.specs.Parts.{chunk_of}
-use Rattle.value_files.specs.Outside.{Reads, RoseBy}
+use Rattle.lumos_depot.specs.Steps.{Reads, RoseBy}
 use Rattle.early_engine.specs.Grids.{IsOnGrid}
 use Rattle.early_engine.specs.Passes.{Place, bytes_of, tally_of}
 use Rattle.early_engine.specs.Steps.{AreHot, IsFedTo, blocks_in, needs_by}

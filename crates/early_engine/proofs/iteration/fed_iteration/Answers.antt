@@ -17,7 +17,7 @@ use Rattle.early_engine.proofs.GridLemmas.{blocks_same, on_grid_same}
 use Rattle.early_engine.proofs.FlagLemmas.{marked}
 use Rattle.early_engine.proofs.HotLemmas.{hot_still}
 use Rattle.early_engine.proofs.MadeLemmas.{column_chunk, made_all, made_none}
-use Rattle.early_engine.proofs.Moving.{reads_none, reads_then, rose_then}
+use Rattle.lumos_depot.proofs.StepLemmas.{reads_none, reads_then, rose_whole}
 use Rattle.early_engine.proofs.PassLemmas.{below_more, bytes_both, tally_moved}
 use Rattle.early_engine.proofs.iteration.fed_iteration.Goals as goal
 
@@ -122,7 +122,7 @@ loop-j-preserved g c =
       taken = λ edges t grid hot.
           let here = on_grid_same edges cut table _ _ kept.reads.contents grid in
           let need = needs_by p edges cut false t in
-          rose_then _ _ _ (bytes_of edges (chunk_of cut) need (places_below Fed cut.parts j)) (bytes_of edges (chunk_of cut) need (places Fed cut.parts j)) _
+          rose_whole _ _ _ (bytes_of edges (chunk_of cut) need (places_below Fed cut.parts j)) (bytes_of edges (chunk_of cut) need (places Fed cut.parts j)) _
           (ap (bytes_of edges (chunk_of cut) need) (below_more Fed cut.parts j) ∙ bytes_both edges (chunk_of cut) need (places_below Fed cut.parts j) (places Fed cut.parts j)) (kept.taken edges t grid hot)
           (next.taken edges t here (hot_still p edges cut t c.args.active.now.was_hot c.loop-j.active.was_hot kept.was_hot hot));
     }

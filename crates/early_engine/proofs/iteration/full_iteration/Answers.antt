@@ -15,7 +15,7 @@ use Rattle.early_engine.proofs.GridLemmas.{blocks_same, on_grid_same}
 use Rattle.early_engine.proofs.FlagLemmas.{marked}
 use Rattle.early_engine.proofs.HotLemmas.{ready_at}
 use Rattle.early_engine.proofs.MadeLemmas.{all_parts, chunk_put, column_chunk, made_all, made_none}
-use Rattle.early_engine.proofs.Moving.{reads_none, reads_then, rose_then}
+use Rattle.lumos_depot.proofs.StepLemmas.{reads_none, reads_then, rose_whole}
 use Rattle.early_engine.proofs.PassLemmas.{below_more, bytes_both, tally_moved}
 use Rattle.early_engine.proofs.iteration.full_iteration.Goals as goal
 
@@ -123,7 +123,7 @@ loop-j-preserved g c =
           let here = on_grid_same edges cut table _ _ kept.reads.contents grid in
           let ready = ready_at p edges cut j t c.args.before.now c.loop-j.after c.args.active.now.was_hot c.loop-j.active.was_hot c.loop-j.active.is_hot kept.was_hot holds (kept.made edges t grid holds hot).chunk hot (kept.hot edges t grid holds hot) in
           let need = needs_by p edges cut c.args.ahead t in
-          rose_then _ _ _ (bytes_of edges (chunk_of cut) need (places_below Full cut.parts j)) (bytes_of edges (chunk_of cut) need (places Full cut.parts j)) _
+          rose_whole _ _ _ (bytes_of edges (chunk_of cut) need (places_below Full cut.parts j)) (bytes_of edges (chunk_of cut) need (places Full cut.parts j)) _
           (ap (bytes_of edges (chunk_of cut) need) (below_more Full cut.parts j) ∙ bytes_both edges (chunk_of cut) need (places_below Full cut.parts j) (places Full cut.parts j)) (kept.taken edges t grid holds hot) (next.taken edges t here ready);
     }
 

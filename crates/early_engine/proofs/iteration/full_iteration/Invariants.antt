@@ -4,7 +4,7 @@ use Rattle.lumos_depot.specs.declared.depot.FileKind.TheVariants.{Primary}
 use Rattle.lumos_law.specs.Sync.{values, IsChunk}
 use Rattle.lumos_report.specs.declared.records.Kind.TheVariants.{Full}
 use Rattle.partition.specs.Parts.{chunk_of, first_vertex}
-use Rattle.value_files.specs.Outside.{Reads, RoseBy}
+use Rattle.lumos_depot.specs.Steps.{Reads, RoseBy}
 use Rattle.early_engine.specs.Early.{early_sum}
 use Rattle.early_engine.specs.Grids.{IsOnGrid}
 use Rattle.early_engine.specs.Passes.{bytes_of, places_below, tally_of}

@@ -4,7 +4,7 @@ use Rattle.lumos_law.specs.Sync.{values, IsChunk}
 use Rattle.lumos_report.specs.declared.records.Kind.{Kind}
 use Rattle.lumos_report.specs.declared.records.Kind.TheVariants.{Full, Fed}
 use Rattle.partition.specs.Parts.{chunk_of}
-use Rattle.value_files.specs.Outside.{Reads}
+use Rattle.lumos_depot.specs.Steps.{Reads}
 use Rattle.early_engine.specs.Early.{early_sum}
 use Rattle.early_engine.specs.Passes.{feeds_ahead, file_of, kind_of}
 use Rattle.early_engine.proofs.KindLemmas.{fed_before, fed_not_ahead}

@@ -4,7 +4,7 @@ use Rattle.early_engine.specs.Engines.{cut_in}
 use Rattle.early_engine.specs.Grids.{bytes_in}
 use Rattle.early_engine.specs.Passes.{file_of}
 use Rattle.early_engine.proofs.GridLemmas.{on_grid_same}
-use Rattle.early_engine.proofs.Moving.{told_same}
+use Rattle.lumos_depot.proofs.StepLemmas.{told_same}
 use Rattle.early_engine.proofs.OpenLemmas.{blocks_fit}
 use Rattle.early_engine.proofs.open.read_layout.Goals as goal
 

@@ -1,7 +1,7 @@
 use Rattle.std.proofs.Common.{◌≡◌, ◌+◌, ℕ, suc, Ok, Err, sym, ap, ◌∙◌, subst, arith}
 use Rattle.lumos_depot.specs.Streams.{after_told}
 use Rattle.lumos_depot.specs.declared.depot.FileKind.TheVariants.{Primary, Secondary}
-use Rattle.value_files.specs.Outside.{RoseBy}
+use Rattle.lumos_depot.specs.Steps.{RoseBy}
 use Rattle.early_engine.specs.Engines.{IsStanding, cut_in}
 use Rattle.early_engine.specs.Passes.{kind_of}
 use Rattle.early_engine.specs.Runs.{RunComes}

@@ -1,8 +1,9 @@
 use Rattle.std.proofs.Common.{◌≡◌, ℕ, ◌+◌, ◌-◌, ◌≤◌, List, [], ◌∷◌, ◌++◌, length, take, drop, map, cond, sym, ap, ap₂, ◌∙◌, arith, add-one}
 use Rattle.std.proofs.lemmas.List.{length-take, length-drop, map-append}
 use Rattle.std.specs.List.{range_with_len}
+use Rattle.lumos_base.specs.Leaving.{out_info}
 use Rattle.flight_core.specs.Events.{Kept, keep, first_kept}
-use Rattle.lumos_law.specs.Sync.{chunk, out_info, values}
+use Rattle.lumos_law.specs.Sync.{chunk, values}
 use Rattle.lumos_law.proofs.ChunkLemmas.{chunk_part}
 use Rattle.partition.specs.Parts.{chunk_of, first_vertex}
 use Rattle.partition.proofs.BucketLemmas.{range_more}

@@ -1,8 +1,9 @@
 use Rattle.std.proofs.Common.{◌≡◌, List, map}
 use Rattle.std.specs.List.{range_with_len}
+use Rattle.lumos_base.specs.Leaving.{out_info}
 use Rattle.flight_core.specs.Events.{first_kept}
 use Rattle.lumos_base.specs.declared.records.Edge.{Edge}
-use Rattle.lumos_law.specs.Sync.{out_info, IsChunk}
+use Rattle.lumos_law.specs.Sync.{IsChunk}
 use Rattle.partition.specs.Parts.{chunk_of}
 use Rattle.flight_core.proofs.start.chunk_finals.Given as goal
 

@@ -1,11 +1,8 @@
 use Rattle.std.proofs.Common.{◌+◌, [], ◌∷◌, ◌++◌, cond, sym, ap, ap₂, ◌∙◌}
-use Rattle.lumos_base.specs.declared.records.OutInfo.{OutInfo}
+use Rattle.lumos_base.specs.Leaving.{no_info}
 use Rattle.lumos_law.specs.Sync.{values}
 use Rattle.flight_core.proofs.EachLemmas.{chunk_one_more}
 use Rattle.flight_core.proofs.start.first_values.Goals as goal
-
-abbrev no_info : OutInfo
-no_info = record { degree = 0; weight = 0 }
 
 pub loop-i-preserved : goal.loop-i-preserved
 loop-i-preserved g c edges held =

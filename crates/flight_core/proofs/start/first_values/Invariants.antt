@@ -1,6 +1,7 @@
 use Rattle.std.proofs.Common.{◌≡◌, List}
+use Rattle.lumos_base.specs.Leaving.{out_info}
 use Rattle.lumos_base.specs.declared.records.Edge.{Edge}
-use Rattle.lumos_law.specs.Sync.{chunk, out_info, values, IsChunk}
+use Rattle.lumos_law.specs.Sync.{chunk, values, IsChunk}
 use Rattle.flight_core.proofs.start.first_values.Given as goal
 
 abbrev pub invariant-loop-i : goal.invariant-loop-i

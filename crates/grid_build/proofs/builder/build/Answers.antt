@@ -9,7 +9,7 @@ use Rattle.grid_build.specs.Built.{HasFiles, parts_of}
 use Rattle.grid_build.specs.Steps.{IsListed}
 use Rattle.grid_build.proofs.Building.{AreLimits, files_by, leaves_then, list_within, spool_kept, spool_leaves, spool_listed, steps_by, stopped_outside}
 use Rattle.grid_build.proofs.CopyLemmas.{copies_as}
-use Rattle.grid_build.proofs.Moving.{told_some}
+use Rattle.lumos_depot.proofs.StepLemmas.{told_some}
 use Rattle.grid_build.proofs.builder.build.Goals as goal
 
 pub returns-in-Err-clause-grid : goal.returns-in-Err-clause-grid

@@ -6,7 +6,7 @@ use Rattle.grid_build.specs.Copied.{cut_table, low_ranges, low_total_of}
 use Rattle.grid_build.proofs.Building.{counted_spool, listed_length, on_ok}
 use Rattle.grid_build.proofs.CopyLemmas.{copied_sized, copied_whole, copies_all}
 use Rattle.grid_build.proofs.LowLemmas.{low_ranges_are}
-use Rattle.grid_build.proofs.Moving.{rose_as, told_same}
+use Rattle.lumos_depot.proofs.StepLemmas.{rose_as, told_same}
 use Rattle.grid_build.proofs.builder.fill.Goals as goal
 
 pub distribute-requires-clause-spool : goal.distribute-requires-clause-spool

@@ -7,7 +7,7 @@ use Rattle.grid_build.specs.Copied.{cut_table, low_ranges}
 use Rattle.grid_build.specs.Sorting.{start_of}
 use Rattle.grid_build.proofs.CopyLemmas.{copied_as, copied_long, copied_none}
 use Rattle.grid_build.proofs.LowLemmas.{copied_column}
-use Rattle.grid_build.proofs.Moving.{moves_none, moves_then, rose_then, told_more, told_same}
+use Rattle.lumos_depot.proofs.StepLemmas.{moves_none, moves_then, rose_then, told_more, told_same}
 use Rattle.grid_build.proofs.copying.copy_low.Goals as goal
 
 pub loop-j-init : goal.loop-j-init

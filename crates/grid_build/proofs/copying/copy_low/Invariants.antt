@@ -2,7 +2,7 @@ use Rattle.std.proofs.Common.{◌≡◌, ◌≤◌, ◌*◌}
 use Rattle.lumos_depot.specs.declared.depot.FileKind.TheVariants.{Primary, Secondary}
 use Rattle.grid_format.specs.Tables.{low_edges}
 use Rattle.grid_build.specs.Copied.{HasCopied, cut_table, low_ranges}
-use Rattle.grid_build.specs.Outside.{Moves, RoseBy}
+use Rattle.lumos_depot.specs.Steps.{Moves, RoseBy}
 use Rattle.grid_build.specs.Sorting.{start_of}
 use Rattle.grid_build.proofs.copying.copy_low.Given as goal
 

@@ -2,7 +2,7 @@ use Rattle.std.proofs.Common.{◌≤◌, ◌+◌, length, ap, ◌∙◌, arith}
 use Rattle.std.specs.Option.{option_map}
 use Rattle.lumos_depot.specs.Files.{overwritten}
 use Rattle.lumos_depot.specs.declared.depot.FileKind.TheVariants.{Secondary}
-use Rattle.grid_build.proofs.Moving.{told_more, told_same}
+use Rattle.lumos_depot.proofs.StepLemmas.{told_more, told_same}
 use Rattle.grid_build.proofs.copying.copy_piece.Goals as goal
 
 pub write_at-requires-clause-inside : goal.write_at-requires-clause-inside

@@ -3,7 +3,7 @@ use Rattle.std.proofs.lemmas.List.{length-take-le}
 use Rattle.lumos_depot.specs.Files.{range_at}
 use Rattle.lumos_depot.specs.declared.depot.FileKind.TheVariants.{Primary, Secondary}
 use Rattle.grid_build.proofs.CopyLemmas.{copied_as, copied_long, copied_next, copied_none, range_joined}
-use Rattle.grid_build.proofs.Moving.{moves_none, moves_then, rose_then, told_more, told_same}
+use Rattle.lumos_depot.proofs.StepLemmas.{moves_none, moves_then, rose_then, told_more, told_same}
 use Rattle.grid_build.proofs.copying.copy_range.Goals as goal
 
 pub loop-done-init : goal.loop-done-init

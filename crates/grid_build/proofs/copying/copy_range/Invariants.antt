@@ -2,7 +2,7 @@ use Rattle.std.proofs.Common.{◌≤◌, ◌-◌}
 use Rattle.lumos_depot.specs.Files.{range_at}
 use Rattle.lumos_depot.specs.declared.depot.FileKind.TheVariants.{Primary, Secondary}
 use Rattle.grid_build.specs.Copied.{HasCopied}
-use Rattle.grid_build.specs.Outside.{Moves, RoseBy}
+use Rattle.lumos_depot.specs.Steps.{Moves, RoseBy}
 use Rattle.grid_build.proofs.copying.copy_range.Given as goal
 
 -- so many bytes are copied

@@ -2,7 +2,7 @@ use Rattle.std.proofs.Common.{◌≡◌, ◌≤◌, ◌*◌, ◌+◌, ◌∙◌,
 use Rattle.std.specs.Prelude.{IfSome}
 use Rattle.lumos_depot.specs.Files.{range_at}
 use Rattle.lumos_depot.specs.declared.depot.FileKind.{FileKind}
-use Rattle.grid_build.proofs.Moving.{told_more}
+use Rattle.lumos_depot.proofs.StepLemmas.{told_more}
 use Rattle.grid_build.proofs.ReadLemmas.{pass_more}
 use Rattle.grid_build.proofs.reads.read_edges.Goals as goal
 

@@ -2,7 +2,7 @@ use Rattle.std.proofs.Common.{◌++◌, ◌∙◌, Err, sym, subst, arith}
 use Rattle.lumos_depot.specs.declared.depot.FileKind.{FileKind}
 use Rattle.grid_build.specs.Spooling.{HasSpooled}
 use Rattle.grid_build.specs.declared.options.BuildFault.{BuildFault}
-use Rattle.grid_build.proofs.Moving.{moves_then}
+use Rattle.lumos_depot.proofs.StepLemmas.{moves_then}
 use Rattle.grid_build.proofs.SpoolEnds.{spool_end, spool_end_stop, spool_smaller, spool_stop, takes_then}
 use Rattle.grid_build.proofs.spool.spool_text.Goals as goal
 

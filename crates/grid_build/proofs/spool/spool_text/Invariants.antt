@@ -1,7 +1,7 @@
 use Rattle.std.proofs.Common.{◌≡◌, ◌≤◌, ◌+◌, ◌-◌, ℕ, List, length, false, cond}
 use Rattle.lumos_depot.specs.Streams.{Takes}
 use Rattle.lumos_depot.specs.declared.depot.FileKind.{FileKind}
-use Rattle.grid_build.specs.Outside.{Moves}
+use Rattle.lumos_depot.specs.Steps.{Moves}
 use Rattle.grid_build.specs.SpoolSteps.{IsAtEnd, IsSpooling}
 use Rattle.grid_build.proofs.spool.spool_text.Given as goal
 

@@ -1,7 +1,7 @@
 use Rattle.std.proofs.Common.{◌++◌, take, ◌∙◌, ap, arith}
 use Rattle.std.proofs.lemmas.List.{take_rest}
 use Rattle.std.proofs.lemmas.Grind.{common_steps}
-use Rattle.grid_build.proofs.Moving.{moves_then}
+use Rattle.lumos_depot.proofs.StepLemmas.{moves_then}
 use Rattle.grid_build.proofs.SpoolLemmas.{spooling_part, stops_part}
 use Rattle.grid_build.proofs.spool.take_piece.Goals as goal
 

@@ -1,6 +1,6 @@
 use Rattle.std.proofs.Common.{◌≡◌, ◌≤◌, ◌-◌, ◌+◌, ℕ, List, ◌++◌, length, take}
 use Rattle.lumos_depot.specs.declared.depot.FileKind.{FileKind}
-use Rattle.grid_build.specs.Outside.{Moves}
+use Rattle.lumos_depot.specs.Steps.{Moves}
 use Rattle.grid_build.specs.SpoolSteps.{IsSpooling}
 use Rattle.grid_build.proofs.spool.take_piece.Given as goal
 

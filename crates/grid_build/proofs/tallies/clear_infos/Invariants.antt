@@ -1,5 +1,5 @@
 use Rattle.std.proofs.Common.{◌≡◌, replicate, take}
-use Rattle.grid_build.specs.Tallied.{no_info}
+use Rattle.lumos_base.specs.Leaving.{no_info}
 use Rattle.grid_build.proofs.tallies.clear_infos.Given as goal
 
 abbrev pub invariant-loop-i : goal.invariant-loop-i

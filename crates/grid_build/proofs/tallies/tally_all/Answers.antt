@@ -2,7 +2,7 @@ use Rattle.std.proofs.Common.{◌≡◌, ◌≤◌, ◌+◌, ◌*◌, ℕ, lengt
 use Rattle.std.proofs.lemmas.List.{length-take-le}
 use Rattle.lumos_depot.specs.declared.depot.FileKind.TheVariants.{Spool}
 use Rattle.grid_build.proofs.TallyLemmas.{tallied_as, tallied_none}
-use Rattle.grid_build.proofs.Moving.{reads_none, reads_then, told_more, told_same}
+use Rattle.lumos_depot.proofs.StepLemmas.{reads_none, reads_then, told_more, told_same}
 use Rattle.grid_build.proofs.tallies.tally_all.Goals as goal
 
 pub loop-place-init : goal.loop-place-init

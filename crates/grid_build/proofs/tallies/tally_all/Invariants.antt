@@ -1,7 +1,7 @@
 use Rattle.std.proofs.Common.{◌≤◌, ◌-◌}
 use Rattle.lumos_depot.specs.declared.depot.FileKind.TheVariants.{Spool}
 use Rattle.grid_build.specs.Tallied.{HasTallied}
-use Rattle.grid_build.specs.Outside.{Reads}
+use Rattle.lumos_depot.specs.Steps.{Reads}
 use Rattle.grid_build.proofs.tallies.tally_all.Given as goal
 
 -- the edges before the place are tallied

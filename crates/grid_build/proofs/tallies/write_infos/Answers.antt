@@ -1,7 +1,7 @@
 use Rattle.std.proofs.Common.{arith}
 use Rattle.lumos_depot.specs.declared.depot.FileKind.TheVariants.{Info, Spool}
 use Rattle.grid_build.proofs.InfoBytes.{infos_next}
-use Rattle.grid_build.proofs.Moving.{moves_then}
+use Rattle.lumos_depot.proofs.StepLemmas.{moves_then}
 use Rattle.grid_build.proofs.tallies.write_infos.Goals as goal
 
 pub loop-i-preserved : goal.loop-i-preserved

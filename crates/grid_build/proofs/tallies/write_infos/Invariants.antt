@@ -4,7 +4,7 @@ use Rattle.std.specs.Option.{option_map}
 use Rattle.lumos_base.specs.Records.{info_bytes}
 use Rattle.lumos_depot.specs.Files.{overwritten}
 use Rattle.lumos_depot.specs.declared.depot.FileKind.TheVariants.{Info, Spool}
-use Rattle.grid_build.specs.Outside.{Moves}
+use Rattle.lumos_depot.specs.Steps.{Moves}
 use Rattle.grid_build.proofs.tallies.write_infos.Given as goal
 
 -- the tallies so far are written

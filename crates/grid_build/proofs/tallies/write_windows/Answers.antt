@@ -1,7 +1,7 @@
 use Rattle.std.proofs.Common.{refl, sym, ◌∙◌, arith}
 use Rattle.std.proofs.lemmas.List.{length-take-le}
 use Rattle.lumos_depot.specs.declared.depot.FileKind.TheVariants.{Info, Spool}
-use Rattle.grid_build.proofs.Moving.{moves_none, moves_then}
+use Rattle.lumos_depot.proofs.StepLemmas.{moves_none, moves_then}
 use Rattle.grid_build.proofs.TallyLemmas.{tallied_as}
 use Rattle.grid_build.proofs.WindowLemmas.{windows_long, windows_next, windows_none}
 use Rattle.grid_build.proofs.tallies.write_windows.Goals as goal

@@ -1,6 +1,6 @@
 use Rattle.std.proofs.Common.{◌≤◌, ◌-◌}
 use Rattle.lumos_depot.specs.declared.depot.FileKind.TheVariants.{Info, Spool}
-use Rattle.grid_build.specs.Outside.{Moves}
+use Rattle.lumos_depot.specs.Steps.{Moves}
 use Rattle.grid_build.specs.Tallied.{HasWritten}
 use Rattle.grid_build.proofs.tallies.write_windows.Given as goal
 

@@ -4,7 +4,8 @@ use Rattle.lumos_depot.specs.declared.depot.FileKind.TheVariants.{Meta}
 use Rattle.grid_format.specs.Checks.{◌>>=◌, added, reached, table_of}
 use Rattle.grid_format.specs.Heads.{numbers}
 use Rattle.grid_format.specs.declared.counts.Mismatch.{Mismatch}
-use Rattle.grid_format.proofs.Answering.{fault_counts, in_meta-ok, reads_then}
+use Rattle.grid_format.proofs.Answering.{fault_counts, in_meta-ok}
+use Rattle.lumos_depot.proofs.StepLemmas.{reads_then}
 use Rattle.grid_format.proofs.NumberLemmas.{columns_split, sum-numbers-rest}
 use Rattle.grid_format.proofs.TableLemmas.{low_more, low_of_bytes}
 use Rattle.grid_format.proofs.head.check_columns.Goals as goal
@@ -37,7 +38,7 @@ loop-j-preserved g c =
     let parts = c.args.info.parts in
     let j = c.loop-j.j in
     record {
-      reads = reads_then g.D.Depot.holds g.D.Depot.taken g.D.Depot.stored g.D.Depot.faults g.D.Depot.attached _ _ _ c.loop-j.invariant.reads c.in_ok-total.ensures.reads;
+      reads = reads_then g.D.Depot.holds g.D.Depot.taken g.D.Depot.stored g.D.Depot.faults g.D.Depot.attached Meta _ _ _ c.loop-j.invariant.reads c.in_ok-total.ensures.reads;
       fits = c.in_ok-total.ensures.fits;
       few = omega (arith, c.loop-j.invariant.few, c.in_ok-total.ensures.total, c.total_from-low.ensures, sum-numbers-rest parts j c.check_column.new.column (omega arith));
       lows = λ meta is.

@@ -1,13 +1,14 @@
 use Rattle.std.proofs.Common.{◌≡◌, ℕ, ◌*◌, List, length, sum, refl, sym, ap, ◌+◌, ◌∙◌, arith}
 use Rattle.std.specs.List.{range_with_len}
 use Rattle.std.proofs.lemmas.List.Sorted.{length_permutation}
+use Rattle.lumos_base.specs.Leaving.{out_info}
 use Rattle.lumos_base.specs.Records.{edge_bytes, info_bytes}
 use Rattle.lumos_base.specs.declared.records.Edge.{Edge}
 use Rattle.partition.specs.Blocks.{columns}
 use Rattle.partition.specs.Parts.{chunk_size}
 use Rattle.partition.proofs.BlockLemmas.{hold_once}
 use Rattle.grid_format.specs.Checks.{counted}
-use Rattle.grid_format.specs.Grid.{HasGrid, IsRead, block_counts, grid, grid_head, leaving}
+use Rattle.grid_format.specs.Grid.{HasGrid, IsRead, block_counts, grid, grid_head}
 use Rattle.grid_format.proofs.BlockPlaces.{length-each, length-range}
 use Rattle.grid_format.proofs.GridBlocks.{count_is, length-counts, place_is, sum-counts}
 use Rattle.grid_format.specs.Tables.{low_edges}
@@ -30,7 +31,7 @@ is_read edges n p h =
           (ap (counted (length edges)) read ∙ counted_all (length edges) all sums)
           (length-each edge_bytes 12 (columns edges c p) (λ e. refl) ∙ ap (λ (k : ℕ). 12 * k) whole)
           (length-low edges c p ∙ ap (λ (counts : List ℕ). 12 * low_edges (record { parts = p; counts = counts }) p) (sym read))
-          (length-each (λ v. info_bytes (leaving edges v)) 12 (range_with_len 0 n) (λ v. refl) ∙ ap (λ (k : ℕ). 12 * k) (length-range 0 n));
+          (length-each (λ v. info_bytes (out_info edges v)) 12 (range_with_len 0 n) (λ v. refl) ∙ ap (λ (k : ℕ). 12 * k) (length-range 0 n));
       counts = read;
       count = count_is edges c p;
       place = place_is edges c p;

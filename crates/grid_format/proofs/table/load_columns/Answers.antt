@@ -6,7 +6,8 @@ use Rattle.grid_format.specs.Checks.{◌>>=◌, added, counted, reached}
 use Rattle.grid_format.specs.Heads.{counts_of, numbers}
 use Rattle.grid_format.specs.Tables.{IsWrongCount}
 use Rattle.grid_format.specs.declared.counts.Mismatch.{Mismatch}
-use Rattle.grid_format.proofs.Answering.{damaged_then, reads_then}
+use Rattle.grid_format.proofs.Answering.{damaged_then}
+use Rattle.lumos_depot.proofs.StepLemmas.{reads_then}
 use Rattle.grid_format.proofs.NumberLemmas.{columns_end, columns_split, numbers_split}
 use Rattle.grid_format.proofs.table.load_columns.Goals as goal
 
@@ -32,7 +33,7 @@ loop-j-preserved g c =
     let parts = c.args.info.parts in
     let j = c.loop-j.j in
     record {
-      reads = reads_then g.D.Depot.holds g.D.Depot.taken g.D.Depot.stored g.D.Depot.faults g.D.Depot.attached _ _ _ c.loop-j.invariant.reads c.in_ok-total.ensures.reads;
+      reads = reads_then g.D.Depot.holds g.D.Depot.taken g.D.Depot.stored g.D.Depot.faults g.D.Depot.attached Meta _ _ _ c.loop-j.invariant.reads c.in_ok-total.ensures.reads;
       fits = c.in_ok-total.ensures.fits;
       sums = omega (arith, c.in_ok-total.ensures.sum, c.loop-j.invariant.sums);
       long = omega (arith, c.in_ok-total.ensures.len, c.loop-j.invariant.long, add-mul j 1 parts);

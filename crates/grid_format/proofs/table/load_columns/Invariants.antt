@@ -2,13 +2,13 @@ use Rattle.std.proofs.Common.{◌≡◌, ◌≤◌, ◌+◌, ◌-◌, ◌*◌, �
 use Rattle.lumos_depot.specs.declared.depot.FileKind.TheVariants.{Meta}
 use Rattle.grid_format.specs.Checks.{added}
 use Rattle.grid_format.specs.Heads.{numbers}
-use Rattle.grid_format.specs.Outside.{OnlyReads}
+use Rattle.lumos_depot.specs.Steps.{Reads}
 use Rattle.grid_format.proofs.table.load_columns.Given as goal
 
 -- the counts of the columns so far are there and in the total, and the rest is still to come
 abbrev pub invariant-loop-j : goal.invariant-loop-j
 invariant-loop-j g l = record {
-  reads : OnlyReads g.D.Depot.holds g.D.Depot.taken g.D.Depot.stored g.D.Depot.faults g.D.Depot.attached l.fn.depot l.depot;
+  reads : Reads g.D.Depot.holds g.D.Depot.taken g.D.Depot.stored g.D.Depot.faults g.D.Depot.attached Meta l.fn.depot l.depot;
   fits : l.total ≤ l.info.edges;
   sums : sum l.counts.items ≡ l.total;
   long : vec_len l.counts ≡ l.j * l.parts;

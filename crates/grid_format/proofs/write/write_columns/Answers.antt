@@ -2,7 +2,7 @@ use Rattle.std.proofs.Common.{◌≡◌, ◌≤◌, ◌+◌, ◌-◌, ◌*◌, �
 use Rattle.std.specs.List.{starts_with}
 use Rattle.lumos_depot.specs.declared.depot.FileKind.TheVariants.{Meta}
 use Rattle.grid_format.specs.Heads.{magic}
-use Rattle.grid_format.proofs.Answering.{writes_then}
+use Rattle.lumos_depot.proofs.StepLemmas.{stores_then}
 use Rattle.grid_format.proofs.WriteLemmas.{column_room, column_told, told_as, unfinished_unmarked}
 use Rattle.grid_format.proofs.write.write_columns.Goals as goal
 
@@ -21,6 +21,6 @@ write_behind-requires-clause-unmarked g c =
 
 pub loop-j-preserved : goal.loop-j-preserved
 loop-j-preserved g c = record {
-  writes = writes_then g.D.Depot.holds g.D.Depot.taken g.D.Depot.stored g.D.Depot.faults g.D.Depot.attached _ _ _ c.loop-j.invariant.writes c.in-Ok.ensures.writes;
+  writes = stores_then g.D.Depot.holds g.D.Depot.taken g.D.Depot.stored g.D.Depot.faults g.D.Depot.attached Meta _ _ _ c.loop-j.invariant.writes c.in-Ok.ensures.writes;
   written = column_told c.args.info c.args.counts.now c.put_column.new.column c.args.info.parts c.loop-j.j (g.D.Depot.holds c.args.depot.now Meta) _ _ c.requires.blocks c.loop-j-test.true c.put_column.ensures c.loop-j.invariant.written c.in-Ok.ensures.value;
 }

@@ -2,7 +2,7 @@ use Rattle.std.specs.Prelude.{IfErr, IfOk}
 use Rattle.std.proofs.Common.{Ok, Err, sym, subst}
 use Rattle.lumos_depot.specs.declared.depot.FileKind.TheVariants.{Meta, Primary, Secondary}
 use Rattle.lumos_law.specs.Sync.{ending}
-use Rattle.grid_build.specs.Outside.{RoseBy}
+use Rattle.lumos_depot.specs.Steps.{RoseBy}
 use Rattle.early_engine.specs.Making.{IsOver}
 use Rattle.early_engine.specs.Turns.{RunIsOver}
 use Rattle.early_engine.specs.Passes.{primary_taken, secondary_taken}

@@ -1,6 +1,6 @@
 use Rattle.std.proofs.Common.{◌≤◌, ◌*◌, length, refl}
 use Rattle.lumos_depot.specs.declared.depot.FileKind.TheVariants.{Info}
-use Rattle.early_engine.proofs.Moving.{told_same}
+use Rattle.lumos_depot.proofs.StepLemmas.{told_same}
 use Rattle.early_engine.proofs.OpenLemmas.{infos_fit}
 use Rattle.early_engine.proofs.engine.Engine.open.Goals as goal
 

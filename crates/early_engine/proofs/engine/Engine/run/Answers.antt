@@ -1,7 +1,7 @@
 use Rattle.std.proofs.Common.{◌≡◌, ℕ, refl, sym, subst}
 use Rattle.std.specs.Prelude.{IfOk}
 use Rattle.lumos_depot.specs.declared.depot.FileKind.TheVariants.{Primary, Secondary}
-use Rattle.value_files.specs.Outside.{RoseBy}
+use Rattle.lumos_depot.specs.Steps.{RoseBy}
 use Rattle.early_engine.specs.Engines.{IsStanding, cut_in}
 use Rattle.early_engine.specs.Report.{first_lines}
 use Rattle.early_engine.specs.Runs.{RunComes}

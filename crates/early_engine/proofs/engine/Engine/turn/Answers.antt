@@ -1,7 +1,7 @@
 use Rattle.std.proofs.Common.{◌≡◌, ◌≤◌, ◌+◌, Ok, Err, refl, sym, ap, ◌∙◌, subst}
 use Rattle.lumos_depot.specs.declared.depot.FileKind.TheVariants.{Primary, Secondary}
 use Rattle.partition.specs.Parts.{Cut}
-use Rattle.value_files.specs.Outside.{RoseBy}
+use Rattle.lumos_depot.specs.Steps.{RoseBy}
 use Rattle.early_engine.specs.Engines.{IsStanding, cut_in}
 use Rattle.early_engine.specs.Passes.{primary_bytes, secondary_bytes}
 use Rattle.early_engine.specs.Turns.{HasTurned, TurnComes, phase_after}

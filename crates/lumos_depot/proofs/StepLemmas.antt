@@ -1,10 +1,10 @@
--- One step of the builder after another.
+-- One step over a depot after another.
 use Rattle.std.proofs.Common.{◌≡◌, ◌≤◌, ◌+◌, ℕ, List, Option, Some, None, refl, ◌∙◌, ap, subst, arith}
 use Rattle.std.specs.Prelude.{IfSome}
 use Rattle.std.specs.Option.{option_map}
 use Rattle.lumos_depot.specs.Files.{Same, SameBut, raised}
 use Rattle.lumos_depot.specs.declared.depot.FileKind.{FileKind}
-use Rattle.grid_build.specs.Outside.{Moves, Reads, RoseBy}
+use Rattle.lumos_depot.specs.Steps.{Moves, Reads, RoseBy, Stores}
 
 pub same_then : {A : Type 0} (x y z : FileKind → A) → Same x y → Same y z → Same x z
 same_then x y z first second = λ kind. second kind ∙ first kind
@@ -29,6 +29,15 @@ module _ {D : Type 0} (h : D → FileKind → Option (List ℕ)) (t s : D → Fi
     contents = same_then (h x) (h y) (h z) first.contents second.contents;
     taken = same_but_then from (t x) (t y) (t z) first.taken second.taken;
     stored = same_then (s x) (s y) (s z) first.stored second.stored;
+    later = let l = first.later in let m = second.later in omega arith;
+  }
+
+  pub stores_then : (into : FileKind) (x y z : D) → Stores h t s f a into x y → Stores h t s f a into y z → Stores h t s f a into x z
+  stores_then into x y z first second = record {
+    attached = second.attached ∙ first.attached;
+    contents = same_but_then into (h x) (h y) (h z) first.contents second.contents;
+    taken = same_then (t x) (t y) (t z) first.taken second.taken;
+    stored = same_but_then into (s x) (s y) (s z) first.stored second.stored;
     later = let l = first.later in let m = second.later in omega arith;
   }
 
@@ -78,6 +87,11 @@ pub told_both : (told : Option (List ℕ)) (P Q : List ℕ → Type 0) → IfSom
 told_both None P Q first second = tt
 told_both (Some file) P Q first second = (first, second)
 
+-- what follows of two facts
+pub told_with : (told : Option (List ℕ)) (P Q R : List ℕ → Type 0) → ((file : List ℕ) → P file → Q file → R file) → IfSome told P → IfSome told Q → IfSome told R
+told_with None P Q R step first second = tt
+told_with (Some file) P Q R step first second = step file first second
+
 pub told_some : (told : Option (List ℕ)) (P : List ℕ → Type 0) (file : List ℕ) → told ≡ Some file → IfSome told P → P file
 told_some None P file is had = absurd (cc)
 told_some (Some found) P file is had = let same : found ≡ file = cc in subst P same had
@@ -88,6 +102,10 @@ rose_then x y z m n first second low =
     let two = second low in
     let one = first (omega arith) in
     omega arith
+
+-- by as much as both are
+pub rose_whole : (x y z m n k : ℕ) → k ≡ m + n → RoseBy x y m → RoseBy y z n → RoseBy x z k
+rose_whole x y z m n k all first second = rw all (rose_then x y z m n first second)
 
 -- a transfer raised a counter
 pub raised_rose : (x y n : ℕ) → y ≡ raised x n → RoseBy x y n

@@ -8,6 +8,3 @@ mod records;
 
 pub use cursor::BlockCursor;
 pub use laws::grid_blocks_are_streamed;
-
-#[cfg(test)]
-mod tests;

@@ -23,6 +23,3 @@ mod write;
 pub use engine::Engine;
 pub use laws::passes_are_legal;
 pub use options::{Mode, OpenFault, Phase, RunFault, RunOptions, Show, Turn};
-
-#[cfg(test)]
-mod tests;

@@ -2,7 +2,6 @@ pub mod EdgeList
 pub mod Events
 pub mod Finish
 pub mod Ranges
-pub mod Reach
 pub mod Replayed
 pub mod Schedule
 pub mod ScheduleLine

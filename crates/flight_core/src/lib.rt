@@ -14,8 +14,6 @@ mod said;
 mod schedule;
 mod start;
 mod steps;
-#[cfg(test)]
-mod tests;
 
 pub use crate::event::{Event, Illegal, StepFault};
 pub use crate::laws::{legal_events, open_iterations};

@@ -15,8 +15,6 @@ mod reads;
 mod sorting;
 mod spool;
 mod tallies;
-#[cfg(test)]
-mod tests;
 
 pub use builder::build;
 pub use options::{BuildFault, BuildOptions, PartsChoice};

@@ -13,6 +13,3 @@ pub use head::{GridFault, GridInfo, read_head};
 pub use laws::grids_are_read;
 pub use table::{BlockTable, TableFault};
 pub use write::write_meta;
-
-#[cfg(test)]
-mod tests;

@@ -15,6 +15,3 @@ pub use memory_depot::MemDepot;
 pub use memory_sink::MemSink;
 pub use memory_source::MemSource;
 pub use stream::{Failed, Sink, Source};
-
-#[cfg(test)]
-mod tests;

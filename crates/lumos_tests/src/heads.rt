@@ -4,7 +4,7 @@ ghost use Rattle.lumos_depot.specs.declared.depot.FileKind.{FileKind};
 ghost use Rattle.grid_format.specs.Heads.{IsHead};
 ghost use Rattle.grid_format.specs.Writing.{IsMeta};
 
-use crate::{BlockTable, GridFault, GridInfo, read_head, write_meta};
+use grid_format::{BlockTable, GridFault, GridInfo, read_head, write_meta};
 use lumos_depot::{Depot, DepotFault, FileKind, MemDepot};
 use std::alloc::Global;
 use std::test::Fail;

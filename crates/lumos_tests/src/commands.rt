@@ -1,8 +1,8 @@
 // Whole runs over objects in memory: printed texts, statuses, fault lines, and the bytes that are taken.
 ghost use Rattle.std.specs.Prelude.{◌≡◌, None};
 
-use crate::{Status, lumos};
 use lumos_depot::{FileKind, MemDepot, MemSink, MemSource};
+use lumos_top::{Status, lumos};
 use std::alloc::Global;
 use std::process::Abort;
 use std::test::Fail;

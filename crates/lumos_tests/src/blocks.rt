@@ -2,7 +2,7 @@
 ghost use Rattle.std.specs.Prelude.{◌≡◌, ◌≤◌, ◌+◌, ◌*◌, None};
 ghost use Rattle.lumos_depot.specs.declared.depot.FileKind.{FileKind};
 
-use crate::{BlockCursor, grid_blocks_are_streamed};
+use column_stream::{BlockCursor, grid_blocks_are_streamed};
 use lumos_base::{Edge, Vertex, Weight};
 use lumos_depot::{Depot, FileKind, MemDepot};
 use partition::VertexRange;

@@ -1,7 +1,7 @@
 // Runs over grids in memory.
 ghost use Rattle.std.specs.Prelude.{◌≡◌, ◌≤◌, IfOk, IsSome};
 
-use crate::{Engine, Mode, OpenFault, Phase, RunFault, RunOptions, Show, Turn};
+use early_engine::{Engine, Mode, OpenFault, Phase, RunFault, RunOptions, Show, Turn};
 use grid_format::{GridFault, GridInfo, read_head};
 use lumos_base::NoMemory;
 use lumos_depot::{Depot, FileKind, MemDepot, MemSink, Sink};

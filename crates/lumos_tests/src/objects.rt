@@ -1,7 +1,9 @@
 // What the objects in memory do, with ample memory.
 ghost use Rattle.std.specs.Prelude.{◌≡◌, None};
 
-use crate::{Depot, DepotFault, Failed, FileKind, MemDepot, MemSink, MemSource, Sink, Source};
+use lumos_depot::{
+    Depot, DepotFault, Failed, FileKind, MemDepot, MemSink, MemSource, Sink, Source,
+};
 use std::test::Fail;
 
 #[test]

@@ -2,8 +2,8 @@
 ghost use Rattle.std.specs.Prelude.{◌≡◌, ◌≤◌, ◌<◌, IfSome, None};
 ghost use Rattle.grid_build.specs.Built.{parts_of};
 
-use crate::{BuildFault, BuildOptions, PartsChoice, build};
 use edge_text::{InputFault, InputWhat, TextLimits};
+use grid_build::{BuildFault, BuildOptions, PartsChoice, build};
 use grid_format::GridInfo;
 use lumos_depot::{Depot, FileKind, MemDepot, MemSource, Source};
 use std::alloc::Global;

@@ -1,75 +1,15 @@
 // One iteration of a small program, block by block, and some events of two.
-ghost use Rattle.std.specs.Prelude.{◌≡◌, refl, codes};
-ghost use Rattle.std.proofs.Common.{rules};
-ghost use Rattle.flight_core.specs.Reach.{reach_program, reach_lawful};
+ghost use Rattle.std.specs.Prelude.{◌≡◌};
 
-use crate::{
+use crate::reach::Reach;
+use flight_core::{
     Event, Finish, Illegal, Replay, StepFault, feed_edges, finalise, legal_events, open_iterations,
 };
-use lumos_base::{Edge, Line, OutInfo, Vertex, Weight};
-use lumos_law::{Least, VertexProgram};
+use lumos_base::{Edge, Vertex, Weight};
+use lumos_law::Least;
 use partition::Parts;
 use std::alloc::Global;
 use std::test::Fail;
-
-// Which vertices a walk from vertex 0 leads to: a vertex is reached where its value is 0, and over where nothing
-// reaches it.
-#[derive(Clone, Copy)]
-struct Reach;
-
-impl VertexProgram for Reach {
-    type Value = u64;
-
-    type Sum = Least;
-
-    ghost model = { λ _. reach_program };
-
-    ghost name_text = { λ _. codes "reach" };
-
-    ghost unit_is = { λ _. refl };
-
-    ghost join_is = { λ _. refl };
-
-    ghost lawful = { λ _. reach_lawful };
-
-    ghost value_width = { Prim.search rules };
-
-    ghost sum_width = { Prim.search rules };
-
-    ghost name_short = { λ _. Prim.search rules };
-
-    fn name(&self, line: &mut Line) {
-        line.push_text("reach");
-    }
-
-    fn init(&self, vertex: Vertex, _info: OutInfo) -> u64 {
-        u64::from(vertex.0)
-    }
-
-    fn contributes(&self, value: &u64) -> bool {
-        *value == 0
-    }
-
-    fn contribution(&self, value: &u64, _weight: Weight) -> Least {
-        Least(if *value == 0 { 0 } else { u64::MAX })
-    }
-
-    fn over(&self, _vertex: Vertex, _before: &u64, sum: &Least) -> bool {
-        sum.0 == u64::MAX
-    }
-
-    fn apply(&self, _vertex: Vertex, before: &u64, sum: &Least) -> u64 {
-        (*before).min(sum.0)
-    }
-
-    fn moved(&self, before: &u64, after: &u64) -> bool {
-        (*before == 0) != (*after == 0)
-    }
-
-    fn show(&self, value: &u64, line: &mut Line) {
-        line.push_text(if *value == 0 { "yes" } else { "no" });
-    }
-}
 
 // One moved, some contribute, and this is the least vertex that is over.
 fn one_moved(over: u32) -> Finish {

@@ -1,7 +1,7 @@
 // The blocks on the diagonal and below it, copied from Primary into Secondary.
 ghost use Rattle.std.specs.Prelude.{◌≡◌, ◌≤◌, ◌+◌, ◌*◌, length, sum, IfSome, IsSome, OnErr, OnOk};
 ghost use Rattle.lumos_depot.specs.Causes.{Rose};
-ghost use Rattle.lumos_depot.specs.Files.{HasDepotCause, range_at};
+ghost use Rattle.lumos_depot.specs.Files.{HasCauseOutside, range_at};
 ghost use Rattle.lumos_depot.specs.declared.depot.FileKind.{FileKind};
 ghost use Rattle.grid_build.specs.Copied.{HasCopied, cut_table, low_ranges, low_total_of};
 ghost use Rattle.lumos_depot.specs.Steps.{Moves, RoseBy};
@@ -73,7 +73,7 @@ pub(crate) fn copy_low<D: Depot>(
     ensures taken { OnOk result (RoseBy (D.taken depot.old FileKind.Primary) (D.taken depot.new FileKind.Primary) (12 * low_total_of parts counts.now)) }
     ensures stored { OnOk result (RoseBy (D.stored depot.old FileKind.Secondary) (D.stored depot.new FileKind.Secondary) (12 * low_total_of parts counts.now)) }
     ensures moves { Moves D.holds D.taken D.stored D.faults D.attached FileKind.Primary FileKind.Secondary depot.old depot.new }
-    ensures cause { HasDepotCause (D.faults depot.old) (D.faults depot.new) result }
+    ensures cause { HasCauseOutside (D.faults depot.old) (D.faults depot.new) result }
 {
     let mut first = 0;
     let mut into = 0;

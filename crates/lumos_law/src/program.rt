@@ -3,7 +3,7 @@ ghost use Rattle.std.specs.Prelude.{◌≡◌, ℕ, ◌+◌, ◌≤◌, ◌<◌,
 ghost use Rattle.lumos_base.specs.Records.{IsEdge};
 ghost use Rattle.lumos_base.specs.declared.records.Edge.{Edge};
 ghost use Rattle.lumos_law.specs.Program.{Program, Lawful};
-ghost use Rattle.lumos_law.specs.Sync.{values};
+ghost use Rattle.lumos_law.specs.Sync.{ending, moved_count, values};
 
 use crate::Combine;
 use lumos_base::{Fixed, Line, OutInfo, Vertex, Weight};
@@ -74,9 +74,13 @@ pub trait VertexProgram: Drop {
     ghost name_short: { (p : Self) → length (name_text p) ≤ 16 };
 }
 
-/// The law that the order of the edges does not matter: the synchronous values over a reordered list are those over the
-/// list. The call itself does nothing.
+/// The law that the order of the edges does not matter: over a reordered list the synchronous values are those over the
+/// list, in each iteration as many vertices move, and a run ends in the same way. The call itself does nothing.
 pub fn order_of_edges<G: VertexProgram>()
-    ensures { (program : G) (xs ys : List Edge) → IsPermutation xs ys → length xs ≤ 2147483648 → All IsEdge xs
+    ensures value { (program : G) (xs ys : List Edge) → IsPermutation xs ys → length xs ≤ 2147483648 → All IsEdge xs
         → (t v : ℕ) → v < 2 ^ 32 → values (G.model program) xs t v ≡ values (G.model program) ys t v }
+    ensures moves { (program : G) (xs ys : List Edge) → IsPermutation xs ys → length xs ≤ 2147483648 → All IsEdge xs
+        → (n t : ℕ) → n ≤ 2 ^ 32 → moved_count (G.model program) xs n t ≡ moved_count (G.model program) ys n t }
+    ensures ends { (program : G) (xs ys : List Edge) → IsPermutation xs ys → length xs ≤ 2147483648 → All IsEdge xs
+        → (n limit : ℕ) → n ≤ 2 ^ 32 → ending (G.model program) xs n limit ≡ ending (G.model program) ys n limit }
 {}

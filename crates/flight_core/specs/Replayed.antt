@@ -52,7 +52,7 @@ module _ {G V S : Type 0} (p : Program V S) where
   abbrev pub IsSoundReplay : Replayed G V S → Type 0
   IsSoundReplay r = IsSound p r.edges r.cut.vertices (chunk_of r.cut) r.cut.parts r.state
 
--- an answer to a legal event: it is done, or memory ran out
+-- an answer to a legal event: it is done, or it is want of memory
 abbrev pub IsDoneOrFull : Result (Unit {0}) StepFault → Type 0
 IsDoneOrFull result = (result ≡ Ok tt) ⊎ (result ≡ Err NoMemory)
 

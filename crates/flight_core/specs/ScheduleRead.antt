@@ -41,7 +41,7 @@ pub record HasFault (text : List ℕ) (fault : ScheduleFault) : Type 0 where
   pub whole : schedule text ≡ Err fault
   pub going : (line : ℕ) → fault ≢ Ended line
 
--- a fault of each text that begins with these bytes, unless memory ran out
+-- a fault of each text that begins with these bytes, unless it is want of memory
 abbrev pub IsFaultOf : List ℕ → ScheduleFault → Type 0
 IsFaultOf seen fault = (fault ≡ NoMemory) ⊎ ((more : List ℕ) → HasFault (seen ++ more) fault)
 
@@ -49,7 +49,8 @@ IsFaultOf seen fault = (fault ≡ NoMemory) ⊎ ((more : List ℕ) → HasFault 
 abbrev pub IsEvent : List ℕ → Type 0
 IsEvent line = (event : Event) × (said_by line ≡ Does event)
 
--- A line behind so many lines and these events stops the reader by this fault: the line is bad, or its event is one too many, or memory ran out for its event.
+-- A line behind so many lines and these events stops the reader by this fault: the line is bad, or its event is one too
+-- many, or it is want of memory for its event.
 abbrev pub StopsAt : List ℕ → ℕ → List Event → ScheduleFault → Type 0
 StopsAt line lines events (Bad number) = (said_by line ≡ Unclear) × (number ≡ told (suc lines))
 StopsAt line lines events (TooManyEvents limit) = IsEvent line × (100000 ≤ length events) × (limit ≡ 100000)

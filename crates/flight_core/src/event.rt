@@ -36,6 +36,6 @@ pub enum Illegal {
 pub enum StepFault {
     /// The event is not legal, for this reason.
     Illegal(Illegal),
-    /// Memory ran out.
+    /// Want of memory.
     NoMemory,
 }

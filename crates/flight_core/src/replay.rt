@@ -56,9 +56,9 @@ impl<G: VertexProgram> Replay<G> {
     ghost use Rattle.partition.specs.Blocks.{IsBelow};
     ghost use Rattle.partition.specs.Parts.{chunk_of};
 
-    /// A program over a list of edges, with iteration 0 final in all chunks and nothing done. The ends of the edges have to
-    /// lie below the number of vertices, and there may be at most 2147483648 edges, which is our own bound. `NoMemory`
-    /// comes only where memory ran out.
+    /// A program over a list of edges, with iteration 0 final in all chunks and nothing done. The ends of the edges
+    /// have to lie below the number of vertices, and there may be at most 2147483648 edges, which is our own bound.
+    /// `NoMemory` is want of memory.
     pub fn new(
         alloc: Global,
         edges: &[Edge],
@@ -283,8 +283,9 @@ impl<G: VertexProgram> Replay<G> {
         }
     }
 
-    /// Does an event, where it is legal. The fault is `Illegal` exactly where the event is refused, with the first reason
-    /// that applies, and `NoMemory` comes only where it is legal and memory ran out. After a fault nothing has changed.
+    /// Does an event, where it is legal. The fault is `Illegal` exactly where the event is refused, with the first
+    /// reason that applies, and `NoMemory` is want of memory, at a legal event alone. After a fault nothing has
+    /// changed.
     ///
     /// The state stays sound: whatever events were done, its final values are those of synchronous execution.
     pub fn step(&mut self, alloc: Global, event: Event) -> Result<(), StepFault>

@@ -129,7 +129,7 @@ fn chunk_finals<G: VertexProgram>(
     Ok(finals)
 }
 
-/// The values of all chunks before all iterations. `NoMemory` comes only where memory ran out.
+/// The values of all chunks before all iterations. `NoMemory` is want of memory.
 pub fn first_finals<G: VertexProgram>(
     alloc: Global,
     program: &G,

@@ -1,6 +1,6 @@
 // The records of a graph.
 
-/// Memory ran out. It has no other cause, and what was asked for was not done.
+/// Want of memory: what was asked for was not done.
 #[derive(Clone, Copy, Debug, PartialEq, Eq, Drop)]
 pub struct NoMemory;
 
@@ -8,7 +8,7 @@ pub struct NoMemory;
 #[derive(Clone, Copy, Debug, PartialEq, Eq, Drop)]
 pub struct Vertex(pub u32);
 
-/// The weight of an edge: 1 where a list states none.
+/// The weight of an edge: 1 where a list states none. Weights are our own: SNAP's lists have none.
 #[derive(Clone, Copy, Debug, PartialEq, Eq, Drop)]
 pub struct Weight(pub u32);
 

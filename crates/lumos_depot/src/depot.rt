@@ -28,7 +28,7 @@ pub enum FileKind {
 pub enum DepotFault {
     /// The outside failed. The depot's count of faults, which rose, is the only trace of it.
     Failed,
-    /// Memory ran out, and nothing changed. Only `attach` and `resize` answer it.
+    /// Want of memory; nothing changed. Only `attach` and `resize` answer it.
     NoMemory,
 }
 
@@ -58,8 +58,7 @@ pub trait Depot {
 
     /// Attaches the directory at a path, where none is attached yet. It changes no contents.
     ///
-    /// `Failed` comes only where the count of faults rose, `NoMemory` only where memory ran out. After both none
-    /// is attached.
+    /// `Failed` comes only where the count of faults rose, `NoMemory` is want of memory. After both none is attached.
     fn attach(&mut self, path: &str) -> Result<(), DepotFault>
         requires { attached self.old ≡ None }
         ensures attached { attached self.new ≡ (if is_ok result then Some path.now else None) }
@@ -83,8 +82,8 @@ pub trait Depot {
 
     /// Cuts a file to a length, or extends it to that length with zero bytes. It needs an attached directory.
     ///
-    /// `Failed` comes only where the count of faults rose, and leaves the file as it was or as asked. `NoMemory`
-    /// comes only where memory ran out, and leaves it as it was.
+    /// `Failed` comes only where the count of faults rose, and leaves the file as it was or as asked. `NoMemory` is
+    /// want of memory, and leaves it as it was.
     fn resize(&mut self, kind: FileKind, length: u64) -> Result<(), DepotFault>
         requires { IsSome (attached self.old) }
         ensures value { OnOk result (holds self.new kind ≡ option_map (resized length) (holds self.old kind)) }

@@ -79,8 +79,8 @@ fn overwrite(file: &mut Vec<u8>, place: usize, bytes: &[u8])
 }
 
 impl MemDepot {
-    /// Seven empty files, no directory attached, and all counts at 0. The calls of the trait are numbered from 1,
-    /// and those named in `fails` fail. `NoMemory` comes only where memory ran out.
+    /// Seven empty files, no directory attached, and all counts at 0. The calls of the trait are numbered from 1, and
+    /// those named in `fails` fail. `NoMemory` is want of memory.
     pub fn new(alloc: Global, fails: &[u64]) -> Result<MemDepot, NoMemory>
         ensures { IfOk result (λ d. d ≡ record {
           files = replicate 7 [];
@@ -126,8 +126,8 @@ impl MemDepot {
         self.path = None;
     }
 
-    /// Puts a copy of these bytes in a file's place. It has no number, and leaves all counts. `NoMemory` comes only
-    /// where memory ran out, and leaves all as it was.
+    /// Puts a copy of these bytes in a file's place. It has no number, and leaves all counts. `NoMemory` is want of
+    /// memory, and leaves all as it was.
     pub fn put_file(&mut self, alloc: Global, kind: FileKind, bytes: &[u8]) -> Result<(), NoMemory>
         ensures ok { OnOk result (self.new ≡ with_file self.old kind bytes.now) }
         ensures err { OnErr result (self.new ≡ self.old) }
@@ -183,8 +183,8 @@ impl Depot for MemDepot {
 
     ghost tells_all = { λ d j k. refl };
 
-    /// Keeps a copy of the path. `Failed` comes exactly where the call is one that is to fail, `NoMemory` only where
-    /// memory ran out, and both change nothing but the counts.
+    /// Keeps a copy of the path. `Failed` comes exactly where the call is one that is to fail, `NoMemory` is want of
+    /// memory, and both change nothing but the counts.
     fn attach(&mut self, path: &str) -> Result<(), DepotFault>
         requires { self.old.path ≡ None }
         ensures attached { self.new.path ≡ (if is_ok result then Some path.now else None) }
@@ -227,7 +227,7 @@ impl Depot for MemDepot {
     }
 
     /// Cuts the file, or extends it with zero bytes. `Failed` comes exactly where the call is one that is to fail,
-    /// `NoMemory` only where memory ran out, and both change nothing but the counts.
+    /// `NoMemory` is want of memory, and both change nothing but the counts.
     fn resize(&mut self, kind: FileKind, length: u64) -> Result<(), DepotFault>
         requires { IsSome self.old.path }
         ensures value { OnOk result (told_of self.new kind ≡ Some (resized length (file_of self.old kind))) }

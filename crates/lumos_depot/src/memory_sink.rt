@@ -32,8 +32,8 @@ impl Model for MemSink {
 }
 
 impl MemSink {
-    /// An empty sink with room for `capacity` bytes, which it takes at once. Its calls are numbered from 1, and
-    /// those named in `fails` fail. `NoMemory` comes only where memory ran out.
+    /// An empty sink with room for `capacity` bytes, which it takes at once. Its calls are numbered from 1, and those
+    /// named in `fails` fail. `NoMemory` is want of memory.
     pub fn new(alloc: Global, capacity: usize, fails: &[u64]) -> Result<MemSink, NoMemory>
         ensures { IfOk result (λ s. s ≡ record { written = []; capacity = capacity; fails = fails.now; calls = 0; faults = 0 }) }
     {

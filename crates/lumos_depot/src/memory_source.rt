@@ -32,8 +32,8 @@ impl Model for MemSource {
 }
 
 impl MemSource {
-    /// A source of a copy of these bytes, which gives at most `step` of them, at least one, in one read. Its calls
-    /// are numbered from 1, and those named in `fails` fail. `NoMemory` comes only where memory ran out.
+    /// A source of a copy of these bytes, which gives at most `step` of them, at least one, in one read. Its calls are
+    /// numbered from 1, and those named in `fails` fail. `NoMemory` is want of memory.
     pub fn new(
         alloc: Global,
         bytes: &[u8],

@@ -8,7 +8,7 @@ ghost use Rattle.lumos_law.specs.Sync.{ending, moved_count, values};
 use crate::Combine;
 use lumos_base::{Fixed, Line, OutInfo, Vertex, Weight};
 
-/// A program over the vertices of a graph, run as in GridGraph: in each iteration every edge gives its target a
+/// A program over the vertices of a graph, in a form of our own: in each iteration every edge gives its target a
 /// contribution of its source's value, these are joined, and each vertex's next value is made of its value and its sum.
 ///
 /// Each program proves the laws `lawful`, for all values, sums and edges in range. The widths of its values and sums lie

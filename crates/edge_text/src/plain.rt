@@ -2,6 +2,7 @@
 ghost use Rattle.std.specs.Prelude.{◌≡◌, ◌≤◌, ◌<◌, ◌+◌, ◌^◌, ◌++◌, ℕ, List, length, take, IfSome, true};
 ghost use Rattle.std.specs.List.{list_all};
 ghost use Rattle.edge_text.specs.Fields.{is_blank, is_digit, value_of};
+ghost use Rattle.edge_text.specs.Places.{HasPlaces};
 ghost use Rattle.edge_text.specs.Plain.{IsEnd, IsFieldAt, IsPlain, IsWeightAt};
 ghost use Rattle.edge_text.specs.Reader.{HasRead, run_state};
 ghost use Rattle.lumos_base.specs.declared.records.Edge.{Edge};
@@ -173,6 +174,10 @@ pub fn plain_lines(
     ensures reads { (seen : List ℕ) (edges : List Edge) (bytes : ℕ) → bytes + length text.now ≤ limits.now.max_bytes
         → HasRead (seen ++ take run.used text.now) (edges ++ take run.made edges_out.old) (run_state limits.now bytes run)
         → HasRead (seen ++ take result.used text.now) (edges ++ take result.made edges_out.new) (run_state limits.now bytes result) }
+    ensures free { (seen : List ℕ) (edges : List Edge) (bytes : ℕ) → bytes + length text.now ≤ limits.now.max_bytes
+        → HasRead (seen ++ take run.used text.now) (edges ++ take run.made edges_out.old) (run_state limits.now bytes run)
+        → HasPlaces limits.now seen text.now run.used (length edges + length edges_out.old)
+        → HasPlaces limits.now seen text.now result.used (length edges + length edges_out.old) }
     ensures within { result.used ≤ length text.now }
     ensures places { result.made ≤ length edges_out.new }
     ensures lines { result.lines + run.used ≤ run.lines + result.used }

@@ -3,6 +3,7 @@ ghost use Rattle.std.specs.Prelude.{◌≡◌, ◌≤◌, ◌<◌, ◌⊎◌, �
 ghost use Rattle.lumos_base.specs.declared.records.Edge.{Edge};
 ghost use Rattle.edge_text.specs.declared.fault.TextFault.{TextFault};
 ghost use Rattle.edge_text.specs.Lines.{lines_of, rest_of};
+ghost use Rattle.edge_text.specs.Places.{HasPlaces, IsDecided};
 ghost use Rattle.edge_text.specs.Reader.{HasRead, edges_or_fault};
 ghost use Rattle.edge_text.specs.Reading.{edges_of, greatest_end, line_edge, line_of, listed, reading};
 
@@ -137,6 +138,8 @@ impl EdgeReader {
         requires places { made + 2 ≤ length edges_out.old }
         ensures reads { (seen : List ℕ) (edges : List Edge) → HasRead seen (edges ++ take made edges_out.old) self.old
             → HasRead (seen ++ take result.used text.now) (edges ++ take result.made edges_out.new) self.new }
+        ensures free { (seen : List ℕ) (edges : List Edge) → HasRead seen (edges ++ take made edges_out.old) self.old
+            → HasPlaces self.old.limits seen text.now result.used (length edges + length edges_out.old) }
         ensures within { result.used ≤ length text.now }
         ensures places { result.made ≤ length edges_out.new }
         ensures idle { result.used ≡ 0 → result.made ≡ made }
@@ -177,6 +180,9 @@ impl EdgeReader {
         ensures reads { (seen : List ℕ) (edges : List Edge) → HasRead seen (edges ++ take made edges_out.old) self.old
             → MatchResult result (λ fed. HasRead (seen ++ take fed.used text.now) (edges ++ take fed.made edges_out.new) self.new)
             (λ fault. (more : List ℕ) → reading self.old.limits (seen ++ (text.now ++ more)) ≡ Err fault) }
+        ensures free { (seen : List ℕ) (edges : List Edge) → HasRead seen (edges ++ take made edges_out.old) self.old
+            → MatchResult result (λ fed. HasPlaces self.old.limits seen text.now fed.used (length edges + length edges_out.old))
+            (IsDecided self.old.limits seen text.now (length edges + length edges_out.old)) }
         ensures within { IfOk result (λ fed. (0 < fed.used) × (fed.used ≤ length text.now) × (fed.made ≤ length edges_out.new)) }
         ensures kept { IfErr result (λ fault. self.new.fault ≡ Some fault) }
         ensures limits { self.new.limits ≡ self.old.limits }
@@ -209,6 +215,9 @@ impl EdgeReader {
         ensures reads { (seen : List ℕ) (edges : List Edge) → HasRead seen (edges ++ take made edges_out.old) self.old
             → MatchResult result (λ fed. HasRead (seen ++ take fed.used text.now) (edges ++ take fed.made edges_out.new) self.new)
             (λ fault. (more : List ℕ) → reading self.old.limits (seen ++ (text.now ++ more)) ≡ Err fault) }
+        ensures free { (seen : List ℕ) (edges : List Edge) → HasRead seen (edges ++ take made edges_out.old) self.old
+            → MatchResult result (λ fed. HasPlaces self.old.limits seen text.now fed.used (length edges + length edges_out.old))
+            (IsDecided self.old.limits seen text.now (length edges + length edges_out.old)) }
         ensures within { IfOk result (λ fed. (0 < fed.used) × (fed.used ≤ length text.now) × (fed.made ≤ length edges_out.new)) }
         ensures kept { IfErr result (λ fault. self.new.fault ≡ Some fault) }
         ensures limits { self.new.limits ≡ self.old.limits }
@@ -227,6 +236,9 @@ impl EdgeReader {
         ensures reads { (seen : List ℕ) (edges : List Edge) → HasRead seen edges self.old
             → MatchResult result (λ fed. HasRead (seen ++ take fed.used text.now) (edges ++ take fed.made edges_out.new) self.new)
             (λ fault. (more : List ℕ) → reading self.old.limits (seen ++ text.now ++ more) ≡ Err fault) }
+        ensures free { (seen : List ℕ) (edges : List Edge) → HasRead seen edges self.old
+            → MatchResult result (λ fed. HasPlaces self.old.limits seen text.now fed.used (length edges + length edges_out.old))
+            (IsDecided self.old.limits seen text.now (length edges + length edges_out.old)) }
         ensures within { IfOk result (λ fed. (fed.used ≤ length text.now) × (fed.made ≤ length edges_out.new)) }
         ensures stops { IfOk result (λ fed. (fed.used ≡ length text.now) ⊎ (length edges_out.new < fed.made + 2)) }
         ensures progress { IfOk result (λ fed. 0 < length text.now → 2 ≤ length edges_out.new → 0 < fed.used) }
@@ -254,12 +266,16 @@ impl EdgeReader {
     /// `edges_out`.
     ///
     /// Its faults are the text's, whatever comes behind the piece: `Input` and `TooManyEdges` when the end of such
-    /// a line was read, and `InputTooLong` at the byte behind the limit. After a fault each later call answers it.
+    /// a line was read, and `InputTooLong` at the byte behind the limit. It takes no byte and decides no fault where
+    /// fewer than two places are free. After a fault each later call answers it.
     pub fn feed(&mut self, piece: &[u8], edges_out: &mut [Edge]) -> Result<Fed, TextFault>
         requires { 2 ≤ length edges_out.old }
         ensures reads { (seen : List ℕ) (edges : List Edge) → HasRead seen edges self.old
             → MatchResult result (λ fed. HasRead (seen ++ take fed.used piece.now) (edges ++ take fed.made edges_out.new) self.new)
             (λ fault. (more : List ℕ) → reading self.old.limits (seen ++ piece.now ++ more) ≡ Err fault) }
+        ensures free { (seen : List ℕ) (edges : List Edge) → HasRead seen edges self.old
+            → MatchResult result (λ fed. HasPlaces self.old.limits seen piece.now fed.used (length edges + length edges_out.old))
+            (IsDecided self.old.limits seen piece.now (length edges + length edges_out.old)) }
         ensures within { IfOk result (λ fed. (fed.used ≤ length piece.now) × (fed.made ≤ length edges_out.new)) }
         ensures stops { IfOk result (λ fed. (fed.used ≡ length piece.now) ⊎ (length edges_out.new < fed.made + 2)) }
         ensures progress { IfOk result (λ fed. 0 < length piece.now → 0 < fed.used) }

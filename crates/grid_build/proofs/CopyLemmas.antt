@@ -1,5 +1,5 @@
 -- One copy from file to file behind another.
-use Rattle.std.proofs.Common.{◌≡◌, ◌≤◌, ◌+◌, ℕ, true, false, List, [], ◌++◌, length, take, drop, Option, Some, None, refl, sym, ap, ap₂, ◌∙◌, arith, append-nil, length-append}
+use Rattle.std.proofs.Common.{◌≡◌, ◌≤◌, ◌+◌, ◌*◌, ℕ, true, false, List, [], ◌++◌, length, take, drop, Option, Some, None, refl, sym, ap, ap₂, ◌∙◌, arith, append-nil, length-append}
 use Rattle.std.specs.Prelude.{IfSome, is_some}
 use Rattle.std.proofs.Math.Seq.{take-add}
 use Rattle.std.proofs.lemmas.List.{drop_all, drop-drop}
@@ -9,7 +9,7 @@ use Rattle.lumos_depot.specs.declared.depot.FileKind.TheVariants.{Primary, Secon
 use Rattle.grid_build.specs.Copied.{CopiesAll, HasCopied}
 use Rattle.lumos_depot.specs.Steps.{RoseBy}
 use Rattle.grid_build.proofs.InfoBytes.{length-overwritten, written_next, written_none}
-use Rattle.lumos_depot.proofs.StepLemmas.{told_both, told_by, told_more, told_some}
+use Rattle.lumos_depot.proofs.StepLemmas.{rose_as, told_both, told_by, told_more, told_same, told_some}
 
 told_each : (told : Option (List ℕ)) (P : List ℕ → Type 0) → ((file : List ℕ) → P file) → IfSome told P
 told_each None P each = tt
@@ -67,14 +67,20 @@ copied_whole part size source (Some held) new file had told long is =
     let rest : drop (0 + length bytes) held ≡ [] = drop_all (0 + length bytes) held (omega (arith, long, had.whole)) in
     had.written ∙ ap Some (ap (λ l. bytes ++ l) rest ∙ append-nil bytes ∙ told_some source (λ x. bytes ≡ part x) file is had.same)
 
--- what was counted for a copy of the length of the file
-pub copies_all : (taken taken_then stored stored_then : FileKind → ℕ) (size : ℕ) (secondary : Option (List ℕ)) → RoseBy (taken Primary) (taken_then Primary) size → RoseBy (stored Secondary) (stored_then Secondary) size → IfSome secondary (λ file. length file ≡ size) →
-    CopiesAll taken taken_then stored stored_then secondary
-copies_all taken taken_then stored stored_then size secondary took put =
-    told_more secondary (λ file. length file ≡ size) (λ file. RoseBy (taken Primary) (taken_then Primary) (length file) × RoseBy (stored Secondary) (stored_then Secondary) (length file))
-    (λ file long. (λ low. omega (arith, took low, long), λ low. omega (arith, put low, long)))
+-- what was counted for a copy, by the length of the file
+pub copies_long : (edges : ℕ) (taken taken_then stored stored_then : FileKind → ℕ) (secondary : Option (List ℕ)) → CopiesAll edges taken taken_then stored stored_then secondary →
+    IfSome secondary (λ file. RoseBy (taken Primary) (taken_then Primary) (length file) × RoseBy (stored Secondary) (stored_then Secondary) (length file))
+copies_long edges taken taken_then stored stored_then secondary had =
+    told_more secondary (λ file. length file ≡ 12 * had.low) (λ file. RoseBy (taken Primary) (taken_then Primary) (length file) × RoseBy (stored Secondary) (stored_then Secondary) (length file))
+    (λ file long. (λ low. let took = had.taken_bytes low in omega (arith, took, long), λ low. let put = had.stored_bytes low in omega (arith, put, long))) had.long
 
 -- the same between counts that are as these
-pub copies_as : (taken taken_then stored stored_then took took_then put put_then : FileKind → ℕ) (secondary told : Option (List ℕ)) → took Primary ≡ taken Primary → took_then Primary ≡ taken_then Primary → put Secondary ≡ stored Secondary → put_then Secondary ≡ stored_then Secondary → told ≡ secondary →
-    CopiesAll taken taken_then stored stored_then secondary → CopiesAll took took_then put put_then told
-copies_as taken taken_then stored stored_then took took_then put put_then secondary told a b d e is had = rw (a, b, d, e, is) had
+pub copies_as : (edges : ℕ) (taken taken_then stored stored_then took took_then put put_then : FileKind → ℕ) (secondary told : Option (List ℕ)) → took Primary ≡ taken Primary → took_then Primary ≡ taken_then Primary → put Secondary ≡ stored Secondary → put_then Secondary ≡ stored_then Secondary → told ≡ secondary →
+    CopiesAll edges taken taken_then stored stored_then secondary → CopiesAll edges took took_then put put_then told
+copies_as edges taken taken_then stored stored_then took took_then put put_then secondary told a b d e is had = record {
+  low = had.low;
+  fewer = had.fewer;
+  taken_bytes = rose_as (taken Primary) (taken_then Primary) (took Primary) (took_then Primary) (12 * had.low) a b had.taken_bytes;
+  stored_bytes = rose_as (stored Secondary) (stored_then Secondary) (put Secondary) (put_then Secondary) (12 * had.low) d e had.stored_bytes;
+  long = told_same secondary told (λ file. length file ≡ 12 * had.low) is had.long;
+}

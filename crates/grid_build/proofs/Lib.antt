@@ -2,6 +2,7 @@ pub mod Building
 pub mod CopyLemmas
 pub mod CountLemmas
 pub mod EdgeBytes
+pub mod Growing
 pub mod InfoBytes
 pub mod LowLemmas
 pub mod NumberLemmas

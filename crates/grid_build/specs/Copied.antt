@@ -1,5 +1,5 @@
 -- What is copied from Primary into Secondary: the blocks on the diagonal and below it.
-use Rattle.std.specs.Prelude.{◌≡◌, ◌-◌, ◌*◌, ℕ, List, flat_map, length, Option, IfSome}
+use Rattle.std.specs.Prelude.{◌≡◌, ◌≤◌, ◌-◌, ◌*◌, ℕ, List, flat_map, length, Option, IfSome}
 use Rattle.std.specs.List.{range_with_len}
 use Rattle.std.specs.Option.{option_map}
 use Rattle.lumos_depot.specs.Files.{overwritten, range_at}
@@ -32,6 +32,11 @@ pub record HasCopied (part : List ℕ → List ℕ) (place size : ℕ) (source b
   pub written : after ≡ option_map (overwritten place bytes) before
   pub same : IfSome source (λ file. bytes ≡ part file)
 
--- As many bytes as Secondary has, where it is told, were taken of Primary and stored in Secondary.
-abbrev pub CopiesAll : (FileKind → ℕ) → (FileKind → ℕ) → (FileKind → ℕ) → (FileKind → ℕ) → Option (List ℕ) → Type 0
-CopiesAll taken taken_then stored stored_then secondary = IfSome secondary (λ file. RoseBy (taken Primary) (taken_then Primary) (length file) × RoseBy (stored Secondary) (stored_then Secondary) (length file))
+-- The bytes of some of so many edges, and no others, were taken of Primary and stored in Secondary, which has them where
+-- it is told.
+pub record CopiesAll (edges : ℕ) (taken taken_then stored stored_then : FileKind → ℕ) (secondary : Option (List ℕ)) : Type 0 where
+  pub low : ℕ
+  pub fewer : low ≤ edges
+  pub taken_bytes : RoseBy (taken Primary) (taken_then Primary) (12 * low)
+  pub stored_bytes : RoseBy (stored Secondary) (stored_then Secondary) (12 * low)
+  pub long : IfSome secondary (λ file. length file ≡ 12 * low)

@@ -1,6 +1,7 @@
 pub mod Built
 pub mod Copied
 pub mod Counted
+pub mod Growing
 pub mod Numbered
 pub mod Outside
 pub mod Passes

@@ -1,5 +1,5 @@
 -- How the reading of a list into Spool goes on.
-use Rattle.std.specs.Prelude.{◌≡◌, ◌*◌, ℕ, List, [], ◌++◌, Bool, false, flat_map, length, Option, Some, IfSome, Result, Ok, Err}
+use Rattle.std.specs.Prelude.{◌≡◌, ◌≤◌, ◌*◌, ℕ, List, [], ◌++◌, Bool, false, flat_map, length, Option, Some, IfSome, Result, Ok, Err}
 use Rattle.lumos_base.specs.Records.{edge_bytes}
 use Rattle.lumos_base.specs.declared.records.Edge.{Edge}
 use Rattle.lumos_depot.specs.Streams.{Takes}
@@ -10,6 +10,7 @@ use Rattle.edge_text.specs.Reading.{reading}
 use Rattle.edge_text.specs.declared.fault.TextFault.TheVariants as text
 use Rattle.edge_text.specs.declared.fault.TextLimits.{TextLimits}
 use Rattle.lumos_depot.specs.Steps.{RoseBy}
+use Rattle.grid_build.specs.Growing.{HasGrown}
 use Rattle.grid_build.specs.Spooling.{IsSpooled}
 use Rattle.grid_build.specs.declared.options.BuildFault.{BuildFault}
 use Rattle.grid_build.specs.declared.options.BuildFault.TheVariants as fault
@@ -61,6 +62,14 @@ pub record HasPiece (limits : TextLimits) (before : ℕ) (seen : List ℕ) (read
   pub piece : List ℕ
   pub takes : Takes old new piece
   pub ends : PieceEnds limits before (seen ++ piece) reader count spool stored new result
+
+-- A piece of at most so many bytes was taken from a source, none where the source failed, and the reading stopped in it.
+pub record HasStopped (limits : TextLimits) (most before : ℕ) (seen : List ℕ) (stored : ℕ) (old new : Option (List ℕ)) (why : SpoolStop) : Type 0 where
+  pub piece : List ℕ
+  pub takes : Takes old new piece
+  pub few : length piece ≤ most
+  pub unread : why ≡ stop.Read → piece ≡ []
+  pub grown : HasGrown limits (seen ++ piece) before stored
 
 -- the end of a text was read
 abbrev pub EndsAs : TextLimits → ℕ → List ℕ → Option (List ℕ) → ℕ → Result Spooled SpoolStop → Type 0

@@ -1,5 +1,5 @@
 // The builder.
-ghost use Rattle.std.specs.Prelude.{◌≡◌, ◌≢◌, ◌≤◌, ◌<◌, ◌*◌, ℕ, List, [], length, sum, IfOk, IfSome, IsSome, OnOk, Err, Some};
+ghost use Rattle.std.specs.Prelude.{◌≡◌, ◌≢◌, ◌≤◌, ◌<◌, ◌*◌, ℕ, List, [], length, sum, IfErr, IfOk, IfSome, IsSome, OnOk, Err, Some};
 ghost use Rattle.lumos_base.specs.declared.records.Edge.{Edge};
 ghost use Rattle.lumos_depot.specs.Causes.{Rose};
 ghost use Rattle.lumos_depot.specs.Files.{HasDepotCause, Same, SameBut};
@@ -9,6 +9,7 @@ ghost use Rattle.grid_format.specs.Grid.{grid};
 ghost use Rattle.grid_format.specs.Heads.{IsHead, meta_bytes};
 ghost use Rattle.grid_build.specs.Built.{HasBuilt, HasFiles, StoresGrid, fault_of, parts_of};
 ghost use Rattle.grid_build.specs.Copied.{CopiesAll, low_total_of};
+ghost use Rattle.grid_build.specs.Growing.{GrowsBy, StopsAt};
 ghost use Rattle.grid_build.specs.Outside.{LeavesRuns};
 ghost use Rattle.lumos_depot.specs.Steps.{RoseBy};
 ghost use Rattle.grid_build.specs.Passes.{IsSpool};
@@ -109,7 +110,7 @@ fn fill<D: Depot>(
     ensures empty { OnOk result (IfSome (D.holds depot.new FileKind.Meta) (λ file. file ≡ [])) }
     ensures spool { D.stored depot.new FileKind.Spool ≡ D.stored depot.old FileKind.Spool }
     ensures stored { OnOk result (RoseBy (D.stored depot.old FileKind.Primary) (D.stored depot.new FileKind.Primary) (12 * count)) }
-    ensures copied { OnOk result (CopiesAll (D.taken depot.old) (D.taken depot.new) (D.stored depot.old) (D.stored depot.new) (D.holds depot.new FileKind.Secondary)) }
+    ensures copied { OnOk result (CopiesAll count (D.taken depot.old) (D.taken depot.new) (D.stored depot.old) (D.stored depot.new) (D.holds depot.new FileKind.Secondary)) }
     ensures leaves { LeavesRuns D.holds D.taken D.stored D.faults D.attached depot.old depot.new }
     ensures cause { HasDepotCause (D.faults depot.old) (D.faults depot.new) result }
 {
@@ -155,7 +156,7 @@ fn write_grid<D: Depot>(
         → HasFiles (grid list parts.vertices parts.parts) (D.holds depot.old) (D.holds depot.new)) }
     ensures spool { D.stored depot.new FileKind.Spool ≡ D.stored depot.old FileKind.Spool }
     ensures stored { IfOk result (λ _. RoseBy (D.stored depot.old FileKind.Primary) (D.stored depot.new FileKind.Primary) (12 * count)) }
-    ensures copied { IfOk result (λ _. CopiesAll (D.taken depot.old) (D.taken depot.new) (D.stored depot.old) (D.stored depot.new) (D.holds depot.new FileKind.Secondary)) }
+    ensures copied { IfOk result (λ info. CopiesAll info.edges (D.taken depot.old) (D.taken depot.new) (D.stored depot.old) (D.stored depot.new) (D.holds depot.new FileKind.Secondary)) }
     ensures leaves { LeavesRuns D.holds D.taken D.stored D.faults D.attached depot.old depot.new }
     ensures cause { HasDepotCause (D.faults depot.old) (D.faults depot.new) result }
 {
@@ -210,12 +211,15 @@ fn depot_fault(fault: DepotFault) -> BuildFault
 /// The list goes into Spool in the order of the input, to its end; then Meta is cut to length 0, the blocks are counted,
 /// the other files get their lengths, the edges are sorted into their blocks in Primary, the blocks on the diagonal and
 /// below it are copied into Secondary, what leads out of each vertex is tallied, Spool is emptied, and Meta is written,
-/// its first eight bytes last. The copy is the only reading of Primary: each byte of Secondary is taken from there once.
+/// its first eight bytes last. The copy is the only reading of Primary: it takes as many bytes there as it stores in
+/// Secondary. At most 12 bytes are stored in Spool for each edge of the text that was taken.
 ///
-/// - `Input`, `TooManyEdges`, `InputTooLong`: exactly where the text has that fault. The grid that was there stays.
-/// - `Read`: only where the source's count of faults rose. The grid that was there stays.
+/// - `Input`, `TooManyEdges`, `InputTooLong`: exactly where the text has that fault, which the last piece of at most 65536
+///   bytes that was taken shows. The grid that was there stays.
+/// - `Read`: only where the source's count of faults rose, and where no line that was taken is faulty. The grid that was
+///   there stays.
 /// - `Depot`: only where the depot's count of faults rose.
-/// - `NoMemory`: only where memory ran out.
+/// - `NoMemory` is want of memory.
 /// - `BudgetTooSmall` never comes, since the parts are stated.
 ///
 /// Over a depot that tells nothing the grid is that of the edges that were read back; an end that isn't among the
@@ -234,11 +238,12 @@ pub fn build<I: Source, D: Depot>(
     requires edges { options.now.limits.max_edges ≤ 2147483648 }
     requires bytes { options.now.limits.max_bytes ≤ 1099511627776 }
     ensures grid { HasBuilt options.now.limits (parts_of options.now.parts) (I.left input.old) (I.left input.new) (D.holds depot.old) (D.holds depot.new) result }
+    ensures version { IfOk result (λ info. info.version ≡ 1) }
     ensures limits { IfOk result IsHead }
+    ensures spooled { GrowsBy options.now.limits (I.left input.old) (I.left input.new) (D.stored depot.old FileKind.Spool) (D.stored depot.new FileKind.Spool) }
+    ensures stops { IfErr result (StopsAt options.now.limits (I.left input.old) (I.left input.new)) }
     ensures stored { IfOk result (λ info. StoresGrid info.edges (D.stored depot.old) (D.stored depot.new)) }
-    ensures copied { OnOk result (IfSome (D.holds depot.new FileKind.Secondary) (λ file.
-        RoseBy (D.taken depot.old FileKind.Primary) (D.taken depot.new FileKind.Primary) (length file)
-        × RoseBy (D.stored depot.old FileKind.Secondary) (D.stored depot.new FileKind.Secondary) (length file))) }
+    ensures copied { IfOk result (λ info. CopiesAll info.edges (D.taken depot.old) (D.taken depot.new) (D.stored depot.old) (D.stored depot.new) (D.holds depot.new FileKind.Secondary)) }
     ensures leaves { LeavesRuns D.holds D.taken D.stored D.faults D.attached depot.old depot.new }
     ensures later { I.faults input.old ≤ I.faults input.new }
     ensures read { result ≡ Err BuildFault.Read → Rose (I.faults input.old) (I.faults input.new) }

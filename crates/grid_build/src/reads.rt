@@ -1,11 +1,10 @@
 // Edges read back from Spool.
-ghost use Rattle.std.specs.Prelude.{◌≡◌, ◌≤◌, ◌<◌, ◌+◌, ◌*◌, ◌++◌, ℕ, List, All, length, IfSome, IsSome, OnErr, OnOk};
+ghost use Rattle.std.specs.Prelude.{◌≡◌, ◌≤◌, ◌<◌, ◌+◌, ◌*◌, ◌++◌, ℕ, List, length, map, IfSome, IsSome, OnErr, OnOk};
 ghost use Rattle.lumos_base.specs.declared.records.Edge.{Edge};
 ghost use Rattle.lumos_depot.specs.Causes.{Rose};
 ghost use Rattle.lumos_depot.specs.declared.depot.FileKind.{FileKind};
-ghost use Rattle.partition.specs.Blocks.{IsBelow};
 ghost use Rattle.lumos_depot.specs.Steps.{Reads};
-ghost use Rattle.grid_build.specs.Passes.{IsPass};
+ghost use Rattle.grid_build.specs.Passes.{IsPass, capped};
 
 use crate::bytes::get_edges;
 use lumos_base::{Edge, Vertex};
@@ -14,8 +13,7 @@ use lumos_depot::{Depot, Failed, FileKind};
 // The edge, with the last vertex in place of an end that isn't below the number of vertices.
 fn capped(vertices: u32, edge: Edge) -> Edge
     requires { 0 < vertices }
-    ensures below { IsBelow vertices result }
-    ensures same { IsBelow vertices edge → result ≡ edge }
+    ensures { result ≡ capped vertices edge }
 {
     let last = vertices - 1;
     Edge {
@@ -28,8 +26,7 @@ fn capped(vertices: u32, edge: Edge) -> Edge
 // Caps the ends of each edge.
 fn cap_ends(vertices: u32, edges: &mut [Edge])
     requires { 0 < vertices }
-    ensures below { All (IsBelow vertices) edges.new }
-    ensures same { All (IsBelow vertices) edges.old → edges.new ≡ edges.old }
+    ensures { edges.new ≡ map (capped vertices) edges.old }
 {
     for i in 0..edges.len() {
         edges[i] = capped(vertices, edges[i]);
@@ -52,6 +49,7 @@ pub(crate) fn read_edges<D: Depot>(
     requires inside { IfSome (D.holds depot.old FileKind.Spool) (λ file. 12 * (first + length edges.old) ≤ length file) }
     ensures pass { (given : List Edge) → IsPass vertices (D.holds depot.old FileKind.Spool) first given
         → OnOk result (IsPass vertices (D.holds depot.old FileKind.Spool) (first + length edges.old) (given ++ edges.new)) }
+    ensures capped { OnOk result ((read : List Edge) × (edges.new ≡ map (capped vertices) read)) }
     ensures reads { Reads D.holds D.taken D.stored D.faults D.attached FileKind.Spool depot.old depot.new }
     ensures cause { OnErr result (Rose (D.faults depot.old) (D.faults depot.new)) }
 {

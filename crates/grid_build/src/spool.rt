@@ -1,5 +1,5 @@
 // The edges of a list, written into Spool in the order of the input.
-ghost use Rattle.std.specs.Prelude.{◌≡◌, ◌≤◌, ◌<◌, ◌+◌, ◌*◌, ◌++◌, [], ℕ, List, IfOk, IfSome, IsSome, IsTrue, OnOk, MatchResult, Err, flat_map, length, take};
+ghost use Rattle.std.specs.Prelude.{◌≡◌, ◌≤◌, ◌<◌, ◌+◌, ◌*◌, ◌++◌, [], ℕ, List, IfOk, IfSome, IsSome, IsTrue, OnErr, OnOk, IfErr, MatchResult, Err, flat_map, length, take};
 ghost use Rattle.std.specs.Option.{option_map};
 ghost use Rattle.lumos_base.specs.Records.{edge_bytes};
 ghost use Rattle.lumos_base.specs.declared.records.Edge.{Edge};
@@ -8,8 +8,9 @@ ghost use Rattle.lumos_depot.specs.Files.{HasDepotCause};
 ghost use Rattle.lumos_depot.specs.declared.depot.FileKind.{FileKind};
 ghost use Rattle.edge_text.specs.Reading.{greatest_end, vertices_of};
 ghost use Rattle.lumos_depot.specs.Steps.{Moves, RoseBy};
+ghost use Rattle.grid_build.specs.Growing.{GrowsBy, HasGrown, StopsAt};
 ghost use Rattle.grid_build.specs.Spooling.{HasSpooled};
-ghost use Rattle.grid_build.specs.SpoolSteps.{EndsAs, HasPiece, IsSpooling, StopsAs, spool_fault, stop_of};
+ghost use Rattle.grid_build.specs.SpoolSteps.{EndsAs, HasPiece, HasStopped, IsSpooling, StopsAs, spool_fault, stop_of};
 
 use crate::BuildFault;
 use crate::bytes::{NO_EDGE, put_edges};
@@ -70,6 +71,8 @@ fn append_edges<D: Depot>(
         ≡ option_map (λ file. file ++ flat_map edge_bytes edges.now) (D.holds depot.old FileKind.Spool)) }
     ensures moves { Moves D.holds D.taken D.stored D.faults D.attached FileKind.Spool FileKind.Spool depot.old depot.new }
     ensures stored { OnOk result (RoseBy (D.stored depot.old FileKind.Spool) (D.stored depot.new FileKind.Spool) (12 * length edges.now)) }
+    ensures refused { OnErr result ((D.stored depot.old FileKind.Spool ≤ D.stored depot.new FileKind.Spool)
+        × (D.stored depot.new FileKind.Spool ≤ D.stored depot.old FileKind.Spool + 12 * length edges.now)) }
     ensures cause { HasDepotCause (D.faults depot.old) (D.faults depot.new) result }
 {
     put_edges(edges, bytes);
@@ -78,6 +81,7 @@ fn append_edges<D: Depot>(
         Err(fault) => Err(fault),
     }
 }
+
 // Why edges weren't put into Spool.
 fn stop_of(fault: DepotFault) -> SpoolStop
     ensures { result ≡ stop_of fault }
@@ -109,6 +113,9 @@ fn take_some<D: Depot>(
         → MatchResult result
         (λ used. IsSpooling before (seen ++ take used text.now) reader.new count.new (D.holds depot.new FileKind.Spool) (D.stored depot.new FileKind.Spool))
         (StopsAs reader.old.limits (seen ++ text.now)) }
+    ensures grown { (before : ℕ) (seen : List ℕ)
+        → IsSpooling before seen reader.old count.old (D.holds depot.old FileKind.Spool) (D.stored depot.old FileKind.Spool)
+        → OnErr result (HasGrown reader.old.limits (seen ++ text.now) before (D.stored depot.new FileKind.Spool)) }
     ensures within { IfOk result (λ used. used ≤ length text.now) }
     ensures progress { IfOk result (λ used. 0 < length text.now → 0 < used) }
     ensures counts { IfOk result (λ used. reader.new.bytes ≡ reader.old.bytes + used) }
@@ -152,6 +159,9 @@ fn take_piece<D: Depot>(
         → MatchResult result
         (λ _. IsSpooling before (seen ++ text.now) reader.new count.new (D.holds depot.new FileKind.Spool) (D.stored depot.new FileKind.Spool))
         (StopsAs reader.old.limits (seen ++ text.now)) }
+    ensures grown { (before : ℕ) (seen : List ℕ)
+        → IsSpooling before seen reader.old count.old (D.holds depot.old FileKind.Spool) (D.stored depot.old FileKind.Spool)
+        → OnErr result (HasGrown reader.old.limits (seen ++ text.now) before (D.stored depot.new FileKind.Spool)) }
     ensures counts { OnOk result (reader.new.bytes ≡ reader.old.bytes + length text.now) }
     ensures limits { reader.new.limits ≡ reader.old.limits }
     ensures moves { Moves D.holds D.taken D.stored D.faults D.attached FileKind.Spool FileKind.Spool depot.old depot.new }
@@ -189,6 +199,9 @@ fn read_piece<I: Source, D: Depot>(
         → IsSpooling before seen reader.old count.old (D.holds depot.old FileKind.Spool) (D.stored depot.old FileKind.Spool)
         → HasPiece reader.old.limits before seen reader.new count.new (D.holds depot.new FileKind.Spool) (D.stored depot.new FileKind.Spool)
         (I.left input.old) (I.left input.new) result }
+    ensures stopped { (before : ℕ) (seen : List ℕ)
+        → IsSpooling before seen reader.old count.old (D.holds depot.old FileKind.Spool) (D.stored depot.old FileKind.Spool)
+        → IfErr result (HasStopped reader.old.limits (length piece.old) before seen (D.stored depot.new FileKind.Spool) (I.left input.old) (I.left input.new)) }
     ensures onward { OnOk result (reader.old.bytes ≤ reader.new.bytes) }
     ensures progress { IfOk result (λ more. IsTrue more → reader.old.bytes < reader.new.bytes) }
     ensures limits { reader.new.limits ≡ reader.old.limits }
@@ -240,6 +253,9 @@ fn take_end<D: Depot>(
     ensures ends { (before : ℕ) (seen : List ℕ)
         → IsSpooling before seen reader count (D.holds depot.old FileKind.Spool) (D.stored depot.old FileKind.Spool)
         → EndsAs limits.now before seen (D.holds depot.new FileKind.Spool) (D.stored depot.new FileKind.Spool) result }
+    ensures grown { (before : ℕ) (seen : List ℕ)
+        → IsSpooling before seen reader count (D.holds depot.old FileKind.Spool) (D.stored depot.old FileKind.Spool)
+        → HasGrown limits.now seen before (D.stored depot.new FileKind.Spool) }
     ensures moves { Moves D.holds D.taken D.stored D.faults D.attached FileKind.Spool FileKind.Spool depot.old depot.new }
     ensures not_read { result ≡ Err SpoolStop.Read → ⊥ }
     ensures failed { result ≡ Err SpoolStop.Depot → Rose (D.faults depot.old) (D.faults depot.new) }
@@ -278,10 +294,12 @@ fn spool_text<I: Source, D: Depot>(
     requires edges { limits.max_edges ≤ 2147483648 }
     requires bytes { limits.max_bytes ≤ 1099511627776 }
     requires empty { IfSome (D.holds depot.old FileKind.Spool) (λ file. file ≡ []) }
-    requires piece { 0 < length piece.old }
+    requires piece { length piece.old ≡ 65536 }
     requires places { 2 ≤ length places.old }
     requires room { length bytes.old ≡ 12 * length places.old }
     ensures list { HasSpooled limits (I.left input.old) (I.left input.new) (D.holds depot.new FileKind.Spool) result }
+    ensures grown { GrowsBy limits (I.left input.old) (I.left input.new) (D.stored depot.old FileKind.Spool) (D.stored depot.new FileKind.Spool) }
+    ensures stops { IfErr result (StopsAt limits (I.left input.old) (I.left input.new)) }
     ensures moves { Moves D.holds D.taken D.stored D.faults D.attached FileKind.Spool FileKind.Spool depot.old depot.new }
     ensures stored { IfOk result (λ spooled. RoseBy (D.stored depot.old FileKind.Spool) (D.stored depot.new FileKind.Spool) (12 * spooled.edges)) }
     ensures later { I.faults input.old ≤ I.faults input.new }
@@ -317,6 +335,8 @@ pub(crate) fn spool_list<I: Source, D: Depot>(
     requires bytes { limits.max_bytes ≤ 1099511627776 }
     requires empty { IfSome (D.holds depot.old FileKind.Spool) (λ file. file ≡ []) }
     ensures list { HasSpooled limits (I.left input.old) (I.left input.new) (D.holds depot.new FileKind.Spool) result }
+    ensures grown { GrowsBy limits (I.left input.old) (I.left input.new) (D.stored depot.old FileKind.Spool) (D.stored depot.new FileKind.Spool) }
+    ensures stops { IfErr result (StopsAt limits (I.left input.old) (I.left input.new)) }
     ensures moves { Moves D.holds D.taken D.stored D.faults D.attached FileKind.Spool FileKind.Spool depot.old depot.new }
     ensures stored { IfOk result (λ spooled. RoseBy (D.stored depot.old FileKind.Spool) (D.stored depot.new FileKind.Spool) (12 * spooled.edges)) }
     ensures later { I.faults input.old ≤ I.faults input.new }

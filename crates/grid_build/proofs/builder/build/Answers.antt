@@ -1,4 +1,4 @@
-use Rattle.std.proofs.Common.{◌≡◌, ◌∙◌, ℕ, List, All, Some, flat_map, refl, sym, ap, subst, arith}
+use Rattle.std.proofs.Common.{◌≡◌, ◌*◌, ◌∙◌, ℕ, List, All, Some, flat_map, refl, sym, ap, subst, arith}
 use Rattle.std.specs.Prelude.{IfSome}
 use Rattle.lumos_base.specs.Records.{edge_bytes}
 use Rattle.lumos_depot.specs.declared.depot.FileKind.TheVariants.{Primary, Secondary, Spool, Values}
@@ -9,7 +9,9 @@ use Rattle.grid_build.specs.Built.{HasFiles, parts_of}
 use Rattle.grid_build.specs.Steps.{IsListed}
 use Rattle.grid_build.proofs.Building.{AreLimits, files_by, leaves_then, list_within, spool_kept, spool_leaves, spool_listed, steps_by, stopped_outside}
 use Rattle.grid_build.proofs.CopyLemmas.{copies_as}
-use Rattle.lumos_depot.proofs.StepLemmas.{told_some}
+use Rattle.grid_build.proofs.Growing.{grown_as, grown_none, stops_outside}
+use Rattle.lumos_depot.specs.Steps.{RoseBy}
+use Rattle.lumos_depot.proofs.StepLemmas.{rose_as, told_some}
 use Rattle.grid_build.proofs.builder.build.Goals as goal
 
 pub returns-in-Err-clause-grid : goal.returns-in-Err-clause-grid
@@ -82,7 +84,7 @@ returns-in-Ok-write_grid-clause-grid g c =
 
 pub returns-in-Ok-write_grid-clause-copied : goal.returns-in-Ok-write_grid-clause-copied
 returns-in-Ok-write_grid-clause-copied g c =
-    copies_as (g.D.Depot.taken c.spool_list.new.depot) (g.D.Depot.taken c.write_grid.new.depot) (g.D.Depot.stored c.spool_list.new.depot) (g.D.Depot.stored c.write_grid.new.depot) (g.D.Depot.taken c.args.depot.now) (g.D.Depot.taken c.write_grid.new.depot) (g.D.Depot.stored c.args.depot.now) (g.D.Depot.stored c.write_grid.new.depot) _ _
+    copies_as c.in-Ok-write_grid.info.edges (g.D.Depot.taken c.spool_list.new.depot) (g.D.Depot.taken c.write_grid.new.depot) (g.D.Depot.stored c.spool_list.new.depot) (g.D.Depot.stored c.write_grid.new.depot) (g.D.Depot.taken c.args.depot.now) (g.D.Depot.taken c.write_grid.new.depot) (g.D.Depot.stored c.args.depot.now) (g.D.Depot.stored c.write_grid.new.depot) _ _
     (sym (c.spool_list.ensures.moves.taken Primary (λ same. absurd (cc)) ∙ c.size_file.ensures.taken Primary)) refl
     (sym (c.spool_list.ensures.moves.stored Secondary (λ same. absurd (cc)) ∙ c.size_file.ensures.stored Secondary)) refl refl c.in-Ok-write_grid.ensures.copied
 
@@ -96,7 +98,6 @@ returns-in-Ok-write_grid-clause-limits g c =
     let some = c.requires.some_parts in
     let few = c.requires.few_parts in
     subst IsHead (sym c.in-Ok-write_grid.ensures.head) (record {
-      version = refl;
       some_parts = omega (arith, parts, some);
       few_parts = omega (arith, parts, few);
       vertices = omega (arith, vertices, bounds.0);
@@ -109,3 +110,39 @@ returns-in-Ok-write_grid-clause-leaves g c =
     (leaves_then g.D.Depot.holds g.D.Depot.taken g.D.Depot.stored g.D.Depot.faults g.D.Depot.attached c.args.depot.now c.size_file.new.depot c.spool_list.new.depot c.size_file.ensures.leaves
     (spool_leaves g.D.Depot.holds g.D.Depot.taken g.D.Depot.stored g.D.Depot.faults g.D.Depot.attached c.size_file.new.depot c.spool_list.new.depot c.spool_list.ensures.moves))
     c.write_grid.ensures.leaves
+
+pub returns-in-Ok-write_grid-clause-version : goal.returns-in-Ok-write_grid-clause-version
+returns-in-Ok-write_grid-clause-version g c = ap (λ info. info.version) c.in-Ok-write_grid.ensures.head
+
+pub returns-in-Err-clause-spooled : goal.returns-in-Err-clause-spooled
+returns-in-Err-clause-spooled g c = grown_none c.args.options.now.limits (g.I.Source.left c.args.input.now) _ _ (c.size_file.ensures.stored Spool)
+
+pub returns-in-Err-clause-stops : goal.returns-in-Err-clause-stops
+returns-in-Err-clause-stops g c =
+    rw (c.depot_fault.ensures) (stops_outside c.args.options.now.limits _ _ c.in-Err.fault)
+
+pub returns-in-Err-spool_list-clause-spooled : goal.returns-in-Err-spool_list-clause-spooled
+returns-in-Err-spool_list-clause-spooled g c =
+    grown_as c.args.options.now.limits _ _ _ _ _ _ (sym (c.size_file.ensures.stored Spool)) refl c.spool_list.ensures.grown
+
+pub returns-in-Ok-write_grid-clause-spooled : goal.returns-in-Ok-write_grid-clause-spooled
+returns-in-Ok-write_grid-clause-spooled g c =
+    grown_as c.args.options.now.limits _ _ _ _ _ _ (sym (c.size_file.ensures.stored Spool)) c.write_grid.ensures.spool c.spool_list.ensures.grown
+
+pub returns-in-Err-write_grid-clause-spooled : goal.returns-in-Err-write_grid-clause-spooled
+returns-in-Err-write_grid-clause-spooled g c =
+    grown_as c.args.options.now.limits _ _ _ _ _ _ (sym (c.size_file.ensures.stored Spool)) c.write_grid.ensures.spool c.spool_list.ensures.grown
+
+pub returns-in-Err-write_grid-clause-stops : goal.returns-in-Err-write_grid-clause-stops
+returns-in-Err-write_grid-clause-stops g c =
+    rw (c.depot_fault-in-Err-write_grid.ensures) (stops_outside c.args.options.now.limits _ _ c.in-Err-write_grid.fault)
+
+pub returns-in-Ok-write_grid-clause-stored : goal.returns-in-Ok-write_grid-clause-stored
+returns-in-Ok-write_grid-clause-stored g c =
+    let count : c.in-Ok-write_grid.info.edges ≡ c.in-Ok.spooled.edges = ap (λ info. info.edges) c.in-Ok-write_grid.ensures.head in
+    record {
+      spool_bytes = subst (λ (n : ℕ). RoseBy (g.D.Depot.stored c.args.depot.now Spool) (g.D.Depot.stored c.write_grid.new.depot Spool) (12 * n)) (sym count)
+          (rose_as _ _ _ _ (12 * c.in-Ok.spooled.edges) (sym (c.size_file.ensures.stored Spool)) c.write_grid.ensures.spool c.in-Ok.ensures.stored);
+      primary_bytes = subst (λ (n : ℕ). RoseBy (g.D.Depot.stored c.args.depot.now Primary) (g.D.Depot.stored c.write_grid.new.depot Primary) (12 * n)) (sym count)
+          (rose_as _ _ _ _ (12 * c.in-Ok.spooled.edges) (sym (c.spool_list.ensures.moves.stored Primary (λ same. absurd (cc)) ∙ c.size_file.ensures.stored Primary)) refl c.in-Ok-write_grid.ensures.stored);
+    }

@@ -4,7 +4,8 @@ use Rattle.std.specs.Prelude.{is_some}
 use Rattle.lumos_depot.specs.declared.depot.FileKind.TheVariants.{Meta, Spool, Primary, Secondary, Info}
 use Rattle.grid_build.specs.Copied.{cut_table, low_ranges, low_total_of}
 use Rattle.grid_build.proofs.Building.{counted_spool, listed_length, on_ok}
-use Rattle.grid_build.proofs.CopyLemmas.{copied_sized, copied_whole, copies_all}
+use Rattle.grid_format.proofs.TableLemmas.{low_few}
+use Rattle.grid_build.proofs.CopyLemmas.{copied_sized, copied_whole}
 use Rattle.grid_build.proofs.LowLemmas.{low_ranges_are}
 use Rattle.lumos_depot.proofs.StepLemmas.{rose_as, told_same}
 use Rattle.grid_build.proofs.builder.fill.Goals as goal
@@ -70,8 +71,11 @@ returns-clause-copied g c =
     let P : List ℕ → Type 0 = λ file. length file ≡ 12 * low in
     let sized = told_same old mid P (c.distribute.ensures.moves.contents Secondary (λ same. absurd (cc))) c.requires.sized.secondary_size in
     let copied = copied_sized (low_ranges (cut_table c.args.parts c.args.counts.now) c.args.parts.parts) 0 (12 * low) _ mid then c.in_ok-copy_low.ensures.copied (12 * low) (omega arith) sized in
-    on_ok c.write_info.result (λ info.
-    copies_all (g.D.Depot.taken c.args.depot.now) (g.D.Depot.taken c.write_info.new.depot) (g.D.Depot.stored c.args.depot.now) (g.D.Depot.stored c.write_info.new.depot) (12 * low) last
-    (rose_as _ _ _ _ (12 * low) (sym (c.distribute.ensures.moves.taken Primary (λ same. absurd (cc)))) (c.write_info.ensures.moves.taken Primary (λ same. absurd (cc))) c.in_ok-copy_low.ensures.taken)
-    (rose_as _ _ _ _ (12 * low) (sym (c.distribute.ensures.moves.stored Secondary (λ same. absurd (cc)))) (c.write_info.ensures.moves.stored Secondary (λ same. absurd (cc))) c.in_ok-copy_low.ensures.stored)
-    (told_same then last P (c.write_info.ensures.moves.contents Secondary (λ same. absurd (cc))) copied)) c.write_info.ensures.value
+    let table = cut_table c.args.parts c.args.counts.now in
+    on_ok c.write_info.result (λ info. record {
+      low = low;
+      fewer = omega (arith, low_few table, c.requires.counts.adds_up);
+      taken_bytes = rose_as _ _ _ _ (12 * low) (sym (c.distribute.ensures.moves.taken Primary (λ same. absurd (cc)))) (c.write_info.ensures.moves.taken Primary (λ same. absurd (cc))) c.in_ok-copy_low.ensures.taken;
+      stored_bytes = rose_as _ _ _ _ (12 * low) (sym (c.distribute.ensures.moves.stored Secondary (λ same. absurd (cc)))) (c.write_info.ensures.moves.stored Secondary (λ same. absurd (cc))) c.in_ok-copy_low.ensures.stored;
+      long = told_same then last P (c.write_info.ensures.moves.contents Secondary (λ same. absurd (cc))) copied;
+    }) c.write_info.ensures.value

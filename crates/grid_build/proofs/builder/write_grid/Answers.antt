@@ -43,6 +43,6 @@ returns-clause-files g c = λ list kept whole.
 
 pub returns-clause-copied : goal.returns-clause-copied
 returns-clause-copied g c =
-    copies_as (g.D.Depot.taken c.prepare.new.depot) (g.D.Depot.taken c.fill.new.depot) (g.D.Depot.stored c.prepare.new.depot) (g.D.Depot.stored c.fill.new.depot) (g.D.Depot.taken c.args.depot.now) (g.D.Depot.taken c.complete.new.depot) (g.D.Depot.stored c.args.depot.now) (g.D.Depot.stored c.complete.new.depot) _ _
+    copies_as c.args.count (g.D.Depot.taken c.prepare.new.depot) (g.D.Depot.taken c.fill.new.depot) (g.D.Depot.stored c.prepare.new.depot) (g.D.Depot.stored c.fill.new.depot) (g.D.Depot.taken c.args.depot.now) (g.D.Depot.taken c.complete.new.depot) (g.D.Depot.stored c.args.depot.now) (g.D.Depot.stored c.complete.new.depot) _ _
     (sym (c.prepare.ensures.taken Primary (λ same. absurd (cc)))) (c.complete.ensures.taken Primary)
     (sym (c.prepare.ensures.stored Secondary)) (c.complete.ensures.stored Secondary (λ same. absurd (cc))) c.complete.ensures.secondary c.in_ok-fill.ensures.copied

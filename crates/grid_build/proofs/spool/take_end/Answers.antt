@@ -1,6 +1,7 @@
 use Rattle.std.proofs.Common.{◌≤◌, ℕ, Option, take, sym, ap, subst, arith}
 use Rattle.std.specs.Prelude.{IfSome}
 use Rattle.std.proofs.lemmas.List.{length-append}
+use Rattle.grid_build.proofs.Growing.{grown_end, grown_seen}
 use Rattle.grid_build.proofs.SpoolEnds.{greatest_low, spooled_end}
 use Rattle.grid_build.proofs.SpoolLemmas.{spooling_length}
 use Rattle.grid_build.proofs.spool.take_end.Goals as goal
@@ -33,3 +34,19 @@ returns-in-Ok-append_edges-clause-ends g c = λ before seen had.
     let end = c.in-Ok.ensures.reads seen had.edges had.read in
     spooled_end c.args.limits.now c.args.reader.limits before seen c.args.reader c.args.count (take c.in-Ok.end.made c.finish.new.edges_out) _ _ _ _ _
     c.requires.limits had end.0 end.1 (c.vertices_of.ensures _ end.2) c.in-Ok-append_edges.ensures.value c.in-Ok-append_edges.ensures.stored
+
+pub returns-in-Ok-append_edges-clause-grown : goal.returns-in-Ok-append_edges-clause-grown
+returns-in-Ok-append_edges-clause-grown g c = λ before seen had.
+    let end = c.in-Ok.ensures.reads seen had.edges had.read in
+    grown_end c.args.limits.now c.args.reader.limits before seen c.args.reader c.args.count (take c.in-Ok.end.made c.finish.new.edges_out) _ _ _ c.requires.limits had end.0
+    (λ low. let rose = c.in-Ok-append_edges.ensures.stored low in (omega (arith, rose), omega (arith, rose)))
+
+pub returns-in-Err-append_edges-clause-grown : goal.returns-in-Err-append_edges-clause-grown
+returns-in-Err-append_edges-clause-grown g c = λ before seen had.
+    let end = c.in-Ok.ensures.reads seen had.edges had.read in
+    grown_end c.args.limits.now c.args.reader.limits before seen c.args.reader c.args.count (take c.in-Ok.end.made c.finish.new.edges_out) _ _ _ c.requires.limits had end.0
+    (λ low. c.in-Err-append_edges.ensures.refused)
+
+pub returns-in-Err-clause-grown : goal.returns-in-Err-clause-grown
+returns-in-Err-clause-grown g c = λ before seen had.
+    grown_seen c.args.limits.now before seen c.args.reader c.args.count _ _ c.requires.limits had

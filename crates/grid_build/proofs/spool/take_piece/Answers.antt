@@ -2,6 +2,7 @@ use Rattle.std.proofs.Common.{◌++◌, take, ◌∙◌, ap, arith}
 use Rattle.std.proofs.lemmas.List.{take_rest}
 use Rattle.std.proofs.lemmas.Grind.{common_steps}
 use Rattle.lumos_depot.proofs.StepLemmas.{moves_then}
+use Rattle.grid_build.proofs.Growing.{grown_part}
 use Rattle.grid_build.proofs.SpoolLemmas.{spooling_part, stops_part}
 use Rattle.grid_build.proofs.spool.take_piece.Goals as goal
 
@@ -30,3 +31,8 @@ pub returns-in-Err-clause-reads : goal.returns-in-Err-clause-reads
 returns-in-Err-clause-reads g c = λ before seen had.
     stops_part c.args.reader.now.limits c.loop-used.reader.limits seen c.args.text.now _ c.loop-used.used c.in-Err.stop c.loop-used.invariant.limits
     (take_rest c.args.text.now c.loop-used.used) (c.in-Err.ensures.reads before (seen ++ take c.loop-used.used c.args.text.now) (c.loop-used.invariant.reads before seen had))
+
+pub returns-in-Err-clause-grown : goal.returns-in-Err-clause-grown
+returns-in-Err-clause-grown g c = λ before seen had.
+    grown_part c.args.reader.now.limits c.loop-used.reader.limits seen c.args.text.now _ c.loop-used.used before _ c.loop-used.invariant.limits
+    (take_rest c.args.text.now c.loop-used.used) (c.in-Err.ensures.grown before (seen ++ take c.loop-used.used c.args.text.now) (c.loop-used.invariant.reads before seen had))

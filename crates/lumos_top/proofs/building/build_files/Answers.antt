@@ -1,5 +1,6 @@
 use Rattle.std.proofs.Common.{◌∙◌}
 use Rattle.lumos_depot.specs.declared.depot.FileKind.TheVariants.{Primary, Secondary}
+use Rattle.grid_build.proofs.CopyLemmas.{copies_long}
 use Rattle.lumos_top.proofs.GridEnds.{build_leaves, copied_by, leaves_then, same_leaves}
 use Rattle.lumos_top.proofs.RunLemmas.{unbuilt}
 use Rattle.lumos_top.proofs.building.build_files.Goals as goal
@@ -24,7 +25,7 @@ returns-in-Ok-build-clause-leaves g c =
     leaves_then h t s _ _ _ (same_leaves h t s _ _ c.attach.ensures.contents c.attach.ensures.taken c.attach.ensures.stored) (build_leaves h t s g.D.Depot.faults g.D.Depot.attached _ _ c.build.ensures.leaves)
 
 pub returns-in-Ok-build-clause-copied : goal.returns-in-Ok-build-clause-copied
-returns-in-Ok-build-clause-copied g c = copied_by _ _ _ _ _ (c.attach.ensures.taken Primary) c.in-Ok-build.ensures.copied
+returns-in-Ok-build-clause-copied g c = copied_by _ _ _ _ _ (c.attach.ensures.taken Primary) (copies_long _ _ _ _ _ _ c.in-Ok-build.ensures.copied)
 
 pub returns-in-Ok-build-clause-unread : goal.returns-in-Ok-build-clause-unread
 returns-in-Ok-build-clause-unread g c = c.build.ensures.leaves.taken Secondary (λ e. cc) (λ e. cc) ∙ c.attach.ensures.taken Secondary

@@ -1,5 +1,6 @@
 use Rattle.std.proofs.Common.{◌≡◌, ◌≤◌, ◌-◌, ◌+◌, ℕ, List, ◌++◌, length, take}
 use Rattle.lumos_base.specs.declared.records.Edge.{Edge}
+use Rattle.edge_text.specs.Places.{HasPlaces}
 use Rattle.edge_text.specs.Reader.{HasRead}
 use Rattle.edge_text.proofs.reader.EdgeReader.take_lines.Given as goal
 
@@ -11,6 +12,7 @@ invariant-loop-used l = record {
   bytes : l.self.bytes ≡ l.fn.self.bytes + l.used;
   limits : l.self.limits ≡ l.fn.self.limits;
   reads : (seen : List ℕ) (edges : List Edge) → HasRead seen edges l.fn.self → HasRead (seen ++ take l.used l.text) (edges ++ take l.made l.edges_out) l.self;
+  free : (seen : List ℕ) (edges : List Edge) → HasRead seen edges l.fn.self → HasPlaces l.fn.self.limits seen l.text l.used (length edges + length l.fn.edges_out);
 }
 
 abbrev pub decreases-loop-used : goal.decreases-loop-used

@@ -33,6 +33,6 @@ pub enum BuildFault {
     Read,
     /// The depot failed.
     Depot,
-    /// Memory ran out. It has no other cause.
+    /// Want of memory. It has no other cause.
     NoMemory,
 }

@@ -1,6 +1,7 @@
 -- The bytes of a list of edges, and edge after edge of them.
-use Rattle.std.proofs.Common.{◌≡◌, ◌<◌, ◌*◌, ◌+◌, ℕ, List, ◌∷◌, [], ◌++◌, length, get_or, set, take, drop, refl, sym, ap, ◌∙◌, arith}
+use Rattle.std.proofs.Common.{◌≡◌, ◌<◌, ◌*◌, ◌+◌, ℕ, List, ◌∷◌, [], ◌++◌, length, get_or, set, take, drop, refl, sym, ap, ap₂, ◌∙◌, arith}
 use Rattle.std.specs.Prelude.{All, flat_map}
+use Rattle.std.proofs.Math.Seq.{take-add}
 use Rattle.std.proofs.lemmas.List.{drop_more, flat_map_more, take_more, take_more_set}
 use Rattle.std.proofs.lemmas.List.Elements.{All-get_or}
 use Rattle.lumos_base.specs.Records.{IsEdge, edge_bytes, edge_from}
@@ -28,6 +29,17 @@ read_more bytes edges list i e numbers is low same read had =
     ∙ ap (λ es. es ++ e ∷ []) had
     ∙ ap (λ x. take i list ++ x ∷ []) (read ∙ edge_at bytes list i e numbers is inside)
     ∙ sym (take_more list i e inside)
+
+-- its bytes
+pub bytes_more : (bytes : List ℕ) (edges : List Edge) (i : ℕ) (e : Edge) (n : ℕ) → n ≡ 12 → i < length edges → edge_bytes e ≡ take n (drop (12 * i) bytes) → flat_map edge_bytes (take i edges) ≡ take (12 * i) bytes →
+    flat_map edge_bytes (take (i + 1) (set edges i e)) ≡ take (12 * (i + 1)) bytes
+bytes_more bytes edges i e n width low is had =
+    let next : 12 * i + n ≡ 12 * (i + 1) = omega (arith, width) in
+    ap (flat_map edge_bytes) (take_more_set edges i e low)
+    ∙ sym (flat_map_more edge_bytes [] (take i edges) e)
+    ∙ ap₂ ◌++◌ had is
+    ∙ sym (take-add (12 * i) n bytes)
+    ∙ ap (λ (k : ℕ). take k bytes) next
 
 -- one edge more was written
 pub written_more : (edges : List Edge) (i : ℕ) (d : Edge) (bytes : List ℕ) → i < length edges → bytes ≡ flat_map edge_bytes (take i edges) → bytes ++ edge_bytes (get_or edges i d) ≡ flat_map edge_bytes (take (i + 1) edges)

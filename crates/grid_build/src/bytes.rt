@@ -25,7 +25,8 @@ pub(crate) fn put_edges(edges: &[Edge], bytes: &mut [u8])
 // Fills the places with the edges that the bytes stand for.
 pub(crate) fn get_edges(bytes: &[u8], edges: &mut [Edge])
     requires { length bytes.now ≡ 12 * length edges.old }
-    ensures { (list : List Edge) → All IsEdge list → bytes.now ≡ flat_map edge_bytes list → edges.new ≡ list }
+    ensures value { (list : List Edge) → All IsEdge list → bytes.now ≡ flat_map edge_bytes list → edges.new ≡ list }
+    ensures bytes { flat_map edge_bytes edges.new ≡ bytes.now }
 {
     for i in 0..edges.len() {
         let Some(edge) = Edge::get(&bytes[12 * i..12 * i + 12]) else {

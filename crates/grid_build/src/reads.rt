@@ -1,5 +1,6 @@
 // Edges read back from Spool.
-ghost use Rattle.std.specs.Prelude.{◌≡◌, ◌≤◌, ◌<◌, ◌+◌, ◌*◌, ◌++◌, ℕ, List, length, map, IfSome, IsSome, OnErr, OnOk};
+ghost use Rattle.std.specs.Prelude.{◌≡◌, ◌≤◌, ◌<◌, ◌+◌, ◌*◌, ◌++◌, ℕ, List, flat_map, length, map, IfSome, IsSome, OnErr, OnOk};
+ghost use Rattle.lumos_base.specs.Records.{edge_bytes};
 ghost use Rattle.lumos_base.specs.declared.records.Edge.{Edge};
 ghost use Rattle.lumos_depot.specs.Causes.{Rose};
 ghost use Rattle.lumos_depot.specs.declared.depot.FileKind.{FileKind};
@@ -49,7 +50,7 @@ pub(crate) fn read_edges<D: Depot>(
     requires inside { IfSome (D.holds depot.old FileKind.Spool) (λ file. 12 * (first + length edges.old) ≤ length file) }
     ensures pass { (given : List Edge) → IsPass vertices (D.holds depot.old FileKind.Spool) first given
         → OnOk result (IsPass vertices (D.holds depot.old FileKind.Spool) (first + length edges.old) (given ++ edges.new)) }
-    ensures capped { OnOk result ((read : List Edge) × (edges.new ≡ map (capped vertices) read)) }
+    ensures capped { OnOk result ((read : List Edge) × (flat_map edge_bytes read ≡ bytes.new) × (edges.new ≡ map (capped vertices) read)) }
     ensures reads { Reads D.holds D.taken D.stored D.faults D.attached FileKind.Spool depot.old depot.new }
     ensures cause { OnErr result (Rose (D.faults depot.old) (D.faults depot.new)) }
 {

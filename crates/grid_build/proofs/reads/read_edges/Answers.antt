@@ -20,7 +20,7 @@ returns-clause-pass g c = λ given pass.
     let first = c.args.first in
     let range = subst (λ (n : ℕ). IfSome spool (λ file. c.read_at.new.buf ≡ range_at (12 * first) n file)) c.requires.room c.in-Ok.ensures.value in
     pass_more c.args.vertices spool first (length c.args.edges.now) given c.get_edges.new.edges c.cap_ends.new.edges c.read_at.new.buf pass
-    (c.cap_ends.auto.edges ∙ c.get_edges.auto.edges) range c.get_edges.ensures c.requires.some c.cap_ends.ensures
+    (c.cap_ends.auto.edges ∙ c.get_edges.auto.edges) range c.get_edges.ensures.value c.requires.some c.cap_ends.ensures
 
 pub returns-clause-capped : goal.returns-clause-capped
-returns-clause-capped g c = (c.get_edges.new.edges, c.cap_ends.ensures)
+returns-clause-capped g c = (c.get_edges.new.edges, c.get_edges.ensures.bytes, c.cap_ends.ensures)

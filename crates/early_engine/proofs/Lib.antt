@@ -12,6 +12,7 @@ pub mod PassLemmas
 pub mod PassSteps
 pub mod ReadLemmas
 pub mod Repeats
+pub mod ReportLemmas
 pub mod RunLemmas
 pub mod StandLemmas
 pub mod StartLemmas

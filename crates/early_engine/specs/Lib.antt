@@ -6,6 +6,7 @@ pub mod Making
 pub mod Opens
 pub mod Passes
 pub mod Report
+pub mod Reported
 pub mod Runs
 pub mod Starts
 pub mod Steps

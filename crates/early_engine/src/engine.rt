@@ -17,6 +17,7 @@ ghost use Rattle.early_engine.specs.Grids.{HasBlocks};
 ghost use Rattle.early_engine.specs.Opens.{OpenShows};
 ghost use Rattle.early_engine.specs.Passes.{file_of, kind_of, primary_bytes, primary_taken, secondary_bytes, secondary_taken};
 ghost use Rattle.early_engine.specs.Report.{report};
+ghost use Rattle.early_engine.specs.Reported.{IsOpening, IsReport, TurnReports};
 ghost use Rattle.early_engine.specs.Runs.{RunComes, Streams};
 ghost use Rattle.early_engine.specs.Starts.{IsFromOutside, StartComes, phase_begun};
 ghost use Rattle.early_engine.specs.Turns.{RunIsOver, RunShows, TurnComes, phase_after, phase_of};
@@ -180,6 +181,8 @@ impl<G: VertexProgram> Engine<G> {
         ensures told { (edges : List Edge) → IsOpened edges (D.holds depot.old) self.old
             → StartComes (G.model self.old.program) (G.name_text self.old.program) self.old.options.show edges (cut_in self.old.info)
             self.new.values (O.written out.old) (O.written out.new) result }
+        ensures opened { OnOk result (IsOpening (G.model self.old.program) (G.name_text self.old.program) self.old.options.show self.old.info
+            self.new.values (O.written out.old) (O.written out.new)) }
         ensures stands { (edges : List Edge) → IsOpened edges (D.holds depot.old) self.old
             → IsOk result → IsStanding (G.model self.old.program) edges (D.holds depot.new) self.new }
         ensures core { (edges : List Edge) → IsOpened edges (D.holds depot.old) self.old
@@ -245,6 +248,8 @@ impl<G: VertexProgram> Engine<G> {
         ensures told { (edges : List Edge) → IsStanding (G.model self.old.program) edges (D.holds depot.old) self.old
             → TurnComes (G.model self.old.program) self.old.options.show self.old.options.mode edges (cut_in self.old.info) self.old.options.iterations self.old.finished
             self.new.values self.new.early self.new.active (O.written out.old) (O.written out.new) result }
+        ensures reported { TurnReports (G.model self.old.program) self.old.options.show self.old.options.mode self.old.options.iterations self.old.info.vertices (self.old.finished + 1)
+            self.new.values (O.written out.old) (O.written out.new) result }
         ensures stands { (edges : List Edge) → IsStanding (G.model self.old.program) edges (D.holds depot.old) self.old
             → result ≡ Ok Turn.Going → IsStanding (G.model self.old.program) edges (D.holds depot.new) self.new }
         ensures core { (edges : List Edge) → IsStanding (G.model self.old.program) edges (D.holds depot.old) self.old
@@ -308,6 +313,8 @@ impl<G: VertexProgram> Engine<G> {
             → RunComes (ending (G.model self.program) edges self.info.vertices self.options.iterations)
             (report (G.model self.program) (G.name_text self.program) self.options.show self.options.mode edges self.info.vertices self.info.parts self.options.iterations)
             (O.written out.old) (O.written out.new) result }
+        ensures reported { IfOk result (IsReport (G.model self.program) (G.name_text self.program) self.options.show self.options.mode self.options.iterations self.info
+            (O.written out.old) (O.written out.new)) }
         ensures primary { (edges : List Edge) → IsOpened edges (D.holds depot.old) self
             → IfOk result (λ end. RoseBy (D.taken depot.old FileKind.Primary) (D.taken depot.new FileKind.Primary)
             (primary_taken (G.model self.program) edges self.info.vertices self.info.parts self.options.mode self.options.iterations end.iterations)) }

@@ -9,6 +9,7 @@ ghost use Rattle.early_engine.specs.Engines.{IsStanding, cut_in};
 ghost use Rattle.early_engine.specs.Grids.{HasBlocks};
 ghost use Rattle.early_engine.specs.Passes.{primary_taken, secondary_taken};
 ghost use Rattle.early_engine.specs.Report.{later_lines};
+ghost use Rattle.early_engine.specs.Reported.{AreEnded};
 ghost use Rattle.early_engine.specs.Runs.{RunComes, Streams};
 ghost use Rattle.early_engine.specs.Turns.{RunIsOver, RunShows};
 ghost use Rattle.early_engine.specs.declared.options.Phase.{Phase};
@@ -36,6 +37,8 @@ pub(crate) fn run_turns<G: VertexProgram, D: Depot, O: Sink>(
         → RunComes (ending (G.model engine.old.program) edges engine.old.info.vertices engine.old.options.iterations)
         (later_lines (G.model engine.old.program) engine.old.options.show engine.old.options.mode edges engine.old.info.vertices engine.old.info.parts engine.old.options.iterations)
         (O.written out.old) (O.written out.new) result }
+    ensures reported { IfOk result (AreEnded (G.model engine.old.program) engine.old.options.show engine.old.options.mode engine.old.options.iterations engine.old.info.vertices
+        (O.written out.old) (O.written out.new)) }
     ensures primary { (edges : List Edge) → IsStanding (G.model engine.old.program) edges (D.holds depot.old) engine.old
         → IfOk result (λ end. RoseBy (D.taken depot.old FileKind.Primary) (D.taken depot.new FileKind.Primary)
         (primary_taken (G.model engine.old.program) edges engine.old.info.vertices engine.old.info.parts engine.old.options.mode engine.old.options.iterations end.iterations)) }

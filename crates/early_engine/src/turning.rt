@@ -10,6 +10,7 @@ ghost use Rattle.early_engine.specs.Engines.{IsRoomy};
 ghost use Rattle.early_engine.specs.Grids.{HasBlocks, IsOnGrid};
 ghost use Rattle.early_engine.specs.Making.{IsMade, IsUnmade, StopIsOver, StopShows};
 ghost use Rattle.early_engine.specs.Passes.{file_of, kind_of, primary_bytes, secondary_bytes};
+ghost use Rattle.early_engine.specs.Reported.{TurnReports};
 ghost use Rattle.early_engine.specs.Turns.{RunIsOver, RunShows, TurnComes, fault_of};
 
 use crate::iteration::{Stop, iterate};
@@ -105,6 +106,7 @@ pub(crate) fn make_turn<G: VertexProgram, D: Depot, O: Sink>(
         ≡ ending_from (G.model program.now) edges layout.now.parts.vertices (options.iterations - done) done
         → TurnComes (G.model program.now) options.show options.mode edges layout.now.parts options.iterations done
         room.new.before.items room.new.early.items room.new.active.was_hot (O.written out.old) (O.written out.new) result }
+    ensures reported { TurnReports (G.model program.now) options.show options.mode options.iterations layout.now.parts.vertices t room.new.before.items (O.written out.old) (O.written out.new) result }
     ensures going { result ≡ Ok Turn.Going → t ≢ options.iterations }
     ensures primary { (edges : List Edge) (done : ℕ) → IsOnGrid edges layout.now.parts layout.now.table (D.holds depot.old)
         → t ≡ done + 1 → IsKept (G.model program.now) edges layout.now.parts options.mode options.iterations done room.old.before.items room.old.early.items room.old.active.was_hot

@@ -4,6 +4,7 @@ use Rattle.lumos_depot.specs.declared.depot.FileKind.TheVariants.{Info}
 use Rattle.early_engine.specs.Engines.{IsSameRun, IsStanding}
 use Rattle.early_engine.specs.Runs.{Streams}
 use Rattle.early_engine.specs.declared.options.Phase.TheVariants.{Going}
+use Rattle.early_engine.proofs.ReportLemmas.{Went}
 use Rattle.early_engine.proofs.RunLemmas.{IsRunning, key_of}
 use Rattle.early_engine.proofs.run.run_turns.Given as goal
 
@@ -16,6 +17,7 @@ invariant-loop-turn g l = record {
   same : IsSameRun l.fn.engine l.engine;
   counted : l.engine.finished ≡ l.turn;
   left : l.engine.finished < l.iterations;
+  reports : Went (g.G.VertexProgram.model l.fn.engine.program) l.fn.engine.options.show l.fn.engine.options.mode l.fn.engine.options.iterations l.fn.engine.info.vertices l.turn (g.O.Sink.written l.fn.out) (g.O.Sink.written l.out);
   running : (edges : List Edge) → IsStanding (g.G.VertexProgram.model l.fn.engine.program) edges (g.D.Depot.holds l.fn.depot) l.fn.engine
       → IsRunning g.G.VertexProgram.model edges (key_of l.fn.engine) l.engine (g.D.Depot.holds l.depot) (g.O.Sink.written l.fn.out) (g.O.Sink.written l.out)
       (g.D.Depot.taken l.fn.depot) (g.D.Depot.taken l.depot);

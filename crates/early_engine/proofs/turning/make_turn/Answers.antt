@@ -2,6 +2,8 @@ use Rattle.std.proofs.Common.{Err, suc, length, sym, ◌∙◌, subst}
 use Rattle.lumos_law.specs.Sync.{values, IsChunk}
 use Rattle.early_engine.specs.Turns.{TurnComes}
 use Rattle.early_engine.specs.declared.options.RunFault.{RunFault}
+use Rattle.early_engine.specs.Reported.{TurnReports}
+use Rattle.early_engine.proofs.ReportLemmas.{reported_ok, unreported}
 use Rattle.early_engine.proofs.TurnLemmas.{going_on, turned_cut, turned_ok, turned_stop}
 use Rattle.early_engine.proofs.turning.make_turn.Goals as goal
 
@@ -37,3 +39,16 @@ returns-in-Err-clause-told g c edges done grid kept at low is =
     let held = g.O.Sink.written c.args.out.now in
     subst (λ (f : RunFault). TurnComes p c.args.options.show c.args.options.mode edges cut c.args.options.iterations done items sums flags held held (Err f)) (sym c.fault_of.ensures)
     (turned_stop p c.args.options.show c.args.options.mode edges cut c.args.options.iterations done low is c.args.t c.in-Err.stop items sums flags held at unmade)
+
+pub returns-in-Ok-write_turn-clause-reported : goal.returns-in-Ok-write_turn-clause-reported
+returns-in-Ok-write_turn-clause-reported g c =
+    reported_ok (g.G.VertexProgram.model c.args.program.now) c.args.options.show c.args.options.mode c.args.options.iterations c.args.layout.now.parts.vertices c.args.t (length c.deref.result.now) c.kind_of-kind.result c.in-Ok.counts
+    c.advance.new.room.before.items c.deref.result.now _ _ c.in-Ok-write_turn.turn (c.deref.ensures.len ∙ c.in-Ok.ensures.fits.before_fits) c.kind_of-kind.ensures c.deref.ensures.value c.in-Ok-write_turn.ensures.bytes
+
+pub returns-in-Err-clause-reported : goal.returns-in-Err-clause-reported
+returns-in-Err-clause-reported g c =
+    let p = g.G.VertexProgram.model c.args.program.now in
+    let items = c.advance.new.room.before.items in
+    let held = g.O.Sink.written c.args.out.now in
+    subst (λ (f : RunFault). TurnReports p c.args.options.show c.args.options.mode c.args.options.iterations c.args.layout.now.parts.vertices c.args.t items held held (Err f)) (sym c.fault_of.ensures)
+    (unreported p c.args.options.show c.args.options.mode c.args.options.iterations c.args.layout.now.parts.vertices c.args.t c.args.t c.in-Err.stop items held)

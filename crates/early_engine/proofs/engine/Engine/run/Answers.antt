@@ -5,6 +5,8 @@ use Rattle.lumos_depot.specs.Steps.{RoseBy}
 use Rattle.early_engine.specs.Engines.{IsStanding, cut_in}
 use Rattle.early_engine.specs.Report.{first_lines}
 use Rattle.early_engine.specs.Runs.{RunComes}
+use Rattle.early_engine.specs.Reported.{AreEnded}
+use Rattle.early_engine.proofs.ReportLemmas.{report_if}
 use Rattle.early_engine.proofs.RunLemmas.{end_of, key_of, later_of, primary_in, run_stops, run_then, same_key, secondary_in}
 use Rattle.early_engine.proofs.TakenLemmas.{streams_infos, streams_then}
 use Rattle.early_engine.proofs.engine.Engine.run.Goals as goal
@@ -23,6 +25,16 @@ returns-in-Ok-clause-told g c edges opened =
     let came = subst (λ k. RunComes (end_of model edges k) (later_of model edges k) mid after c.run_turns.result) key (c.run_turns.ensures.told edges here) in
     run_then (end_of model edges (key_of w)) (first_lines (model w.program) (g.G.VertexProgram.name_text w.program) w.options.show edges w.info.vertices w.info.parts) (later_of model edges (key_of w))
     (g.O.Sink.written c.args.out.now) mid after c.run_turns.result begun.1 came
+
+pub returns-in-Ok-clause-reported : goal.returns-in-Ok-clause-reported
+returns-in-Ok-clause-reported g c =
+    let model = g.G.VertexProgram.model in
+    let w = c.args.self in
+    let new = c.begin.new.self in
+    let mid = g.O.Sink.written c.begin.new.out in
+    let after = g.O.Sink.written c.run_turns.new.out in
+    let rest = subst (λ k. IfOk c.run_turns.result (AreEnded (model k.program) k.options.show k.options.mode k.options.iterations k.info.vertices mid after)) (same_key w new c.in-Ok.ensures.same) c.run_turns.ensures.reported in
+    report_if (model w.program) (g.G.VertexProgram.name_text w.program) w.options.show w.options.mode w.options.iterations w.info new.values (g.O.Sink.written c.args.out.now) mid after c.run_turns.result c.in-Ok.ensures.opened rest
 
 pub returns-in-Ok-clause-primary : goal.returns-in-Ok-clause-primary
 returns-in-Ok-clause-primary g c edges opened =

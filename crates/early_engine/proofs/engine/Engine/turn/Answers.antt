@@ -4,6 +4,7 @@ use Rattle.partition.specs.Parts.{Cut}
 use Rattle.lumos_depot.specs.Steps.{RoseBy}
 use Rattle.early_engine.specs.Engines.{IsStanding, cut_in}
 use Rattle.early_engine.specs.Passes.{primary_bytes, secondary_bytes}
+use Rattle.early_engine.specs.Reported.{IsReported, TurnReports}
 use Rattle.early_engine.specs.Turns.{HasTurned, TurnComes, phase_after}
 use Rattle.early_engine.specs.declared.options.Turn.TheVariants.{Going}
 use Rattle.early_engine.proofs.StandLemmas.{core_turned, stands_again, stood, turn_comes}
@@ -32,6 +33,28 @@ returns-in-Err-clause-told g c edges =
     let after = g.O.Sink.written c.make_turn.new.out in
     subst (λ w. IsStanding (model w.program) edges told w → TurnComes (model w.program) w.options.show w.options.mode edges (cut_in w.info) w.options.iterations w.finished items sums flags held after (Err c.in-Err.fault)) c.self.view_is
     (turn_comes (model c.self.inside.program) edges told _ c.self.inside.layout.parts (c.self.inside.finished + 1) items sums flags held after (Err c.in-Err.fault) c.self.invariant.cut_fits refl (c.in-Err.ensures.told edges))
+
+pub returns-in-Ok-clause-reported : goal.returns-in-Ok-clause-reported
+returns-in-Ok-clause-reported g c =
+    let model = g.G.VertexProgram.model in
+    let here = c.self.inside in
+    let items = c.make_turn.new.room.before.items in
+    let held = g.O.Sink.written c.args.out.now in
+    let after = g.O.Sink.written c.make_turn.new.out in
+    let turn = c.in-Ok.turn in
+    subst (λ w. IsReported (model w.program) w.options.show w.options.mode w.options.iterations w.info.vertices (w.finished + 1) items held after turn) c.self.view_is
+    (subst (λ (k : Cut). IsReported (model here.program) here.options.show here.options.mode here.options.iterations k.vertices (here.finished + 1) items held after turn) c.self.invariant.cut_fits c.in-Ok.ensures.reported)
+
+pub returns-in-Err-clause-reported : goal.returns-in-Err-clause-reported
+returns-in-Err-clause-reported g c =
+    let model = g.G.VertexProgram.model in
+    let here = c.self.inside in
+    let items = c.make_turn.new.room.before.items in
+    let held = g.O.Sink.written c.args.out.now in
+    let after = g.O.Sink.written c.make_turn.new.out in
+    let fault = c.in-Err.fault in
+    subst (λ w. TurnReports (model w.program) w.options.show w.options.mode w.options.iterations w.info.vertices (w.finished + 1) items held after (Err fault)) c.self.view_is
+    (subst (λ (k : Cut). TurnReports (model here.program) here.options.show here.options.mode here.options.iterations k.vertices (here.finished + 1) items held after (Err fault)) c.self.invariant.cut_fits c.in-Err.ensures.reported)
 
 pub returns-in-Ok-clause-stands : goal.returns-in-Ok-clause-stands
 returns-in-Ok-clause-stands g c edges stands going =

@@ -13,6 +13,7 @@ ghost use Rattle.lumos_depot.specs.Steps.{Reads, RoseBy};
 ghost use Rattle.lumos_base.specs.Records.{IsEdge};
 ghost use Rattle.early_engine.specs.Core.{IsCoreState};
 ghost use Rattle.early_engine.specs.Engines.{IsOpened, IsSameRun, IsStanding, cut_in};
+ghost use Rattle.early_engine.specs.Gone.{HasPassed};
 ghost use Rattle.early_engine.specs.Grids.{HasBlocks};
 ghost use Rattle.early_engine.specs.Opens.{OpenShows};
 ghost use Rattle.early_engine.specs.Passes.{file_of, kind_of, primary_bytes, primary_taken, secondary_bytes, secondary_taken};
@@ -20,7 +21,7 @@ ghost use Rattle.early_engine.specs.Report.{report};
 ghost use Rattle.early_engine.specs.Reported.{IsOpening, IsReport, TurnReports};
 ghost use Rattle.early_engine.specs.Runs.{RunComes, Streams};
 ghost use Rattle.early_engine.specs.Starts.{IsFromOutside, StartComes, phase_begun};
-ghost use Rattle.early_engine.specs.Turns.{RunIsOver, RunShows, TurnComes, phase_after, phase_of};
+ghost use Rattle.early_engine.specs.Turns.{RunShows, SomeShows, TurnComes, phase_after, phase_of};
 
 use crate::begin::{make_start, mark_first};
 use crate::layout::Layout;
@@ -191,7 +192,7 @@ impl<G: VertexProgram> Engine<G> {
         ensures every { length self.new.values ≡ self.old.info.vertices }
         ensures finished { self.new.finished ≡ 0 }
         ensures phase { self.new.phase ≡ phase_begun result }
-        ensures left { self.new.phase ≡ Phase.Going → 0 < self.new.options.iterations }
+        ensures some { 0 < self.new.options.iterations }
         ensures taken { OnOk result (RoseBy (D.taken depot.old FileKind.Info) (D.taken depot.new FileKind.Info) (12 * self.old.info.vertices)) }
         ensures outside { IfErr result IsFromOutside }
         ensures reads { Reads D.holds D.taken D.stored D.faults D.attached FileKind.Info depot.old depot.new }
@@ -248,7 +249,9 @@ impl<G: VertexProgram> Engine<G> {
         ensures told { (edges : List Edge) → IsStanding (G.model self.old.program) edges (D.holds depot.old) self.old
             → TurnComes (G.model self.old.program) self.old.options.show self.old.options.mode edges (cut_in self.old.info) self.old.options.iterations self.old.finished
             self.new.values self.new.early self.new.active (O.written out.old) (O.written out.new) result }
-        ensures reported { TurnReports (G.model self.old.program) self.old.options.show self.old.options.mode self.old.options.iterations self.old.info.vertices (self.old.finished + 1)
+        ensures reported { TurnReports (G.model self.old.program) self.old.options.show self.old.options.mode self.old.options.iterations self.old.info.vertices
+            (λ t. HasPassed self.old.options.mode self.old.options.iterations self.old.table self.old.active self.new.active t
+            (D.taken depot.old (file_of (kind_of self.old.options.mode (self.old.finished + 1)))) (D.taken depot.new (file_of (kind_of self.old.options.mode (self.old.finished + 1))))) (self.old.finished + 1)
             self.new.values (O.written out.old) (O.written out.new) result }
         ensures stands { (edges : List Edge) → IsStanding (G.model self.old.program) edges (D.holds depot.old) self.old
             → result ≡ Ok Turn.Going → IsStanding (G.model self.old.program) edges (D.holds depot.new) self.new }
@@ -265,8 +268,7 @@ impl<G: VertexProgram> Engine<G> {
         ensures secondary { (edges : List Edge) → IsStanding (G.model self.old.program) edges (D.holds depot.old) self.old
             → OnOk result (RoseBy (D.taken depot.old FileKind.Secondary) (D.taken depot.new FileKind.Secondary)
             (secondary_bytes (G.model self.old.program) edges self.old.info.vertices self.old.info.parts self.old.options.mode self.old.options.iterations (self.old.finished + 1))) }
-        ensures over { IfErr result (RunIsOver G.Value.is_in_range G.Sum.is_in_range (G.model self.old.program)) }
-        ensures damaged { IfErr result (RunShows (cut_in self.old.info) self.old.table) }
+        ensures shows { IfErr result (RunShows G.Value.is_in_range G.Sum.is_in_range (G.model self.old.program) self.old.options.mode (cut_in self.old.info) self.old.table (self.old.finished + 1)) }
         ensures reads { Reads D.holds D.taken D.stored D.faults D.attached (file_of (kind_of self.old.options.mode (self.old.finished + 1))) depot.old depot.new }
         ensures depot { result ≡ Err RunFault.Depot → Rose (D.faults depot.old) (D.faults depot.new) }
         ensures later { O.faults out.old ≤ O.faults out.new }
@@ -313,7 +315,7 @@ impl<G: VertexProgram> Engine<G> {
             → RunComes (ending (G.model self.program) edges self.info.vertices self.options.iterations)
             (report (G.model self.program) (G.name_text self.program) self.options.show self.options.mode edges self.info.vertices self.info.parts self.options.iterations)
             (O.written out.old) (O.written out.new) result }
-        ensures reported { IfOk result (IsReport (G.model self.program) (G.name_text self.program) self.options.show self.options.mode self.options.iterations self.info
+        ensures reported { IfOk result (IsReport (G.model self.program) (G.name_text self.program) self.options.show self.options.mode self.options.iterations self.info self.table
             (O.written out.old) (O.written out.new)) }
         ensures primary { (edges : List Edge) → IsOpened edges (D.holds depot.old) self
             → IfOk result (λ end. RoseBy (D.taken depot.old FileKind.Primary) (D.taken depot.new FileKind.Primary)
@@ -322,9 +324,8 @@ impl<G: VertexProgram> Engine<G> {
             → IfOk result (λ end. RoseBy (D.taken depot.old FileKind.Secondary) (D.taken depot.new FileKind.Secondary)
             (secondary_taken (G.model self.program) edges self.info.vertices self.info.parts self.options.mode self.options.iterations end.iterations)) }
         ensures info_taken { OnOk result (RoseBy (D.taken depot.old FileKind.Info) (D.taken depot.new FileKind.Info) (12 * self.info.vertices)) }
-        ensures over { IfErr result (RunIsOver G.Value.is_in_range G.Sum.is_in_range (G.model self.program)) }
-        ensures damaged { IfErr result (RunShows (cut_in self.info) self.table) }
-        ensures streams { Streams D.holds D.taken D.stored D.faults D.attached depot.old depot.new }
+        ensures shows { IfErr result (SomeShows G.Value.is_in_range G.Sum.is_in_range (G.model self.program) self.options.mode self.options.iterations (cut_in self.info) self.table) }
+        ensures streams { Streams D.holds D.taken D.stored D.faults D.attached self.options.mode self.options.iterations depot.old depot.new }
         ensures depot { result ≡ Err RunFault.Depot → Rose (D.faults depot.old) (D.faults depot.new) }
         ensures later { O.faults out.old ≤ O.faults out.new }
         ensures out { result ≡ Err RunFault.Out → Rose (O.faults out.old) (O.faults out.new) }

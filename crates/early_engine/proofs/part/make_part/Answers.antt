@@ -122,3 +122,12 @@ returns-clause-hot g c edges t holds sums =
     let end = c.finalise-end.ensures.step old (sum_at p edges old) part there in
     let long : length (take (past - first) (drop first c.args.before.now)) ≡ part_length n (chunk_of cut) c.args.j = omega (arith, piece, first_is, past_is) in
     ap (λ (f : Finish). f.hot) end.1 ∙ (λ i. (finish_of p old (sum_at p edges old) (first_is i) (long i)).hot)
+
+pub returns-in-Some-clause-over : goal.returns-in-Some-clause-over
+returns-in-Some-clause-over g c =
+    let ordered : c.range_of-range.result.first ≤ c.range_of-range.result.past = c.range_of-range.ensures.ordered in
+    let inside : c.range_of-range.result.past ≤ c.args.layout.now.parts.vertices = c.range_of-range.ensures.inside in
+    let piece : length (take (c.range_of-range.result.past - c.range_of-range.result.first) (drop c.range_of-range.result.first c.args.before.now)) ≡ c.range_of-range.result.past - c.range_of-range.result.first =
+    simp (length-take, length-drop) (omega (arith, ordered, inside, c.requires.before_fits)) in
+    let high = (see_over-requires g (goal.at.returns-in-Some-clause-over g c).Before-see_over).high in
+    (omega (arith, high, piece, ordered, inside), c.see_over.ensures)

@@ -11,7 +11,7 @@ use Rattle.lumos_report.specs.declared.records.Why.{Why}
 use Rattle.lumos_report.specs.declared.records.Why.TheVariants.{Still, Limit}
 use Rattle.value_files.specs.declared.fault.FileFault.TheVariants as file
 use Rattle.early_engine.specs.Early.{IsKept}
-use Rattle.early_engine.specs.Grids.{IsOfPass}
+use Rattle.early_engine.specs.Grids.{IsStrayWord}
 use Rattle.early_engine.specs.Making.{IsOver}
 use Rattle.early_engine.specs.Passes.{kind_of}
 use Rattle.early_engine.specs.Report.{finished, turn_text}
@@ -55,7 +55,7 @@ abbrev pub RunShows : {V S : Type 0} → (V → Type 0) → (S → Type 0) → P
 RunShows ValueIn SumIn p mode cut table t Depot = ⊤
 RunShows ValueIn SumIn p mode cut table t Out = ⊤
 RunShows ValueIn SumIn p mode cut table t (Range iteration v) = (iteration ≡ t) × (v < cut.vertices) × IsOver ValueIn SumIn p v
-RunShows ValueIn SumIn p mode cut table t (Damaged kind place found) = IsOfPass (kind_of mode t) cut table (file.Damaged kind place found)
+RunShows ValueIn SumIn p mode cut table t (Damaged kind place found) = IsStrayWord (kind_of mode t) cut table kind place found
 
 -- what a fault of some iteration shows, of the first `limit` of them
 pub record SomeShows {V S : Type 0} (ValueIn : V → Type 0) (SumIn : S → Type 0) (p : Program V S) (mode : Mode) (limit : ℕ) (cut : Cut) (table : BlockCounts) (fault : RunFault) : Type 0 where

@@ -6,7 +6,7 @@ use Rattle.lumos_law.proofs.ChunkLemmas.{chunk_part}
 use Rattle.partition.specs.Blocks.{block}
 use Rattle.partition.specs.Parts.{chunk_of, first_vertex}
 use Rattle.partition.specs.declared.records.VertexRange.{VertexRange}
-use Rattle.early_engine.specs.Passes.{place_at}
+use Rattle.early_engine.specs.Passes.{file_of, place_at}
 use Rattle.early_engine.proofs.FeedLemmas.{fed_empty}
 use Rattle.early_engine.proofs.GridLemmas.{grid_list, size_is}
 use Rattle.early_engine.proofs.HotLemmas.{fed_cold, not_hot}
@@ -62,4 +62,4 @@ returns-clause-gone g c size need bs begun sized needed gone =
     let whole : length (take count c.args.room.now) ≡ count = simp length-take (omega (arith, longest, c.count-count.ensures)) in
     let same : length (take count c.args.room.now) ≡ size (place_at c.args.i c.args.j) = omega (arith, whole, sized, c.count-count.ensures) in
     gone_read size need c.args.kind bs (place_at c.args.i c.args.j) begun _ _ c.args.counts.now c.count_read.new.counts (omega (arith, sized, c.count-count.ensures, c.if-count-eq0.false)) (sym needed ∙ c.if-not-needed.false)
-    c.count_read.ensures.value c.count_read.ensures.moved (subst (λ (n : ℕ). RoseBy _ _ (12 * n)) same c.in-Ok.ensures.taken) gone
+    c.count_read.ensures.value c.count_read.ensures.moved (subst (λ (n : ℕ). RoseBy (g.D.Depot.taken c.args.depot.now (file_of c.args.kind)) (g.D.Depot.taken c.load_block.new.depot (file_of c.args.kind)) (12 * n)) same c.in-Ok.ensures.taken) gone

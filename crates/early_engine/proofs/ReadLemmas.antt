@@ -2,9 +2,10 @@
 use Rattle.std.proofs.Common.{◌≡◌, ℕ, zero, suc, ◌+◌, ◌-◌, ◌*◌, ◌/◌, ◌==◌, ◌≤◌, ◌&&◌, Bool, true, false, not, cond, nat_lt, List, [], ◌∷◌, count_by, flat_map, length, refl, ◌∙◌, arith, add-one, length-append}
 use Rattle.std.specs.List.{range_with_len}
 use Rattle.std.proofs.Math.Nat.{add-mul}
+use Rattle.std.proofs.lemmas.Bool.{lt-ltb, ne_eqb}
 use Rattle.std.proofs.lemmas.List.{length-map}
 use Rattle.std.proofs.lemmas.List.FromFn.{length-range_with_len}
-use Rattle.std.proofs.lemmas.List.Sums.{count_by-le-length, length-filter}
+use Rattle.std.proofs.lemmas.List.Sums.{count_by-le-length, length-filter, sum_by-cons}
 use Rattle.lumos_report.specs.declared.records.Kind.{Kind}
 use Rattle.lumos_report.specs.declared.records.Kind.TheVariants.{Full, Fed}
 use Rattle.early_engine.specs.Passes.{Place, passes, place_at, places, reads, rows_of, tally_of}
@@ -48,16 +49,25 @@ fed_few size p need =
 -- a block is read, skipped or empty
 one_way : (n : ℕ) (q : Bool) → cond (nat_lt 0 n && q) 1 0 + cond (nat_lt 0 n && not q) 1 0 + cond (n == 0) 1 0 ≡ 1
 one_way zero q = refl
-one_way (suc k) true = refl
-one_way (suc k) false = refl
+one_way (suc k) q =
+    let some = lt-ltb 0 (suc k) (omega arith) in
+    let apart : (suc k == 0) ≡ false = ne_eqb (suc k) 0 (λ e. omega arith) in
+    (λ i. cond (some i && q) 1 0 + cond (some i && not q) 1 0 + cond (apart i) 1 0) ∙ by q
+  where
+    by : (b : Bool) → cond b 1 0 + cond (not b) 1 0 + 0 ≡ 1
+    by true = refl
+    by false = refl
 
 ways : (size : Place → ℕ) (need : Place → Bool) (bs : List Place)
     → count_by (λ b. nat_lt 0 (size b) && need b) bs + count_by (λ b. nat_lt 0 (size b) && not (need b)) bs + count_by (λ b. size b == 0) bs ≡ length bs
 ways size need [] = omega arith
 ways size need (b ∷ bs) =
+    let read : count_by (λ b. nat_lt 0 (size b) && need b) (b ∷ bs) ≡ cond (nat_lt 0 (size b) && need b) 1 0 + count_by (λ b. nat_lt 0 (size b) && need b) bs = sum_by-cons (λ x. cond (nat_lt 0 (size x) && need x) 1 0) b bs in
+    let skipped : count_by (λ b. nat_lt 0 (size b) && not (need b)) (b ∷ bs) ≡ cond (nat_lt 0 (size b) && not (need b)) 1 0 + count_by (λ b. nat_lt 0 (size b) && not (need b)) bs = sum_by-cons (λ x. cond (nat_lt 0 (size x) && not (need x)) 1 0) b bs in
+    let empty : count_by (λ b. size b == 0) (b ∷ bs) ≡ cond (size b == 0) 1 0 + count_by (λ b. size b == 0) bs = sum_by-cons (λ x. cond (size x == 0) 1 0) b bs in
     let one = one_way (size b) (need b) in
     let rest = ways size need bs in
-    omega arith
+    omega (arith, read, skipped, empty, one, rest)
 
 pub all_counted : (kind : Kind) (size : Place → ℕ) (need : Place → Bool) (bs : List Place) (moved : ℕ) → blocks_in (tally_of kind size need bs moved) ≡ length bs
 all_counted Full size need bs moved =

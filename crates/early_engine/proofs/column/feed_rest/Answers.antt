@@ -1,9 +1,8 @@
-use Rattle.std.proofs.Common.{◌≡◌, ℕ, ◌<◌, ◌≤◌, ◌+◌, ◌-◌, ◌∷◌, ◌++◌, [], false, refl, sym, ap, ◌∙◌, append-nil, append_assoc, arith}
+use Rattle.std.proofs.Common.{◌≡◌, ℕ, ◌<◌, ◌≤◌, ◌+◌, ◌-◌, ◌∷◌, ◌++◌, [], refl, sym, ap, ◌∙◌, append-nil, append_assoc, arith}
 use Rattle.lumos_depot.specs.declared.depot.FileKind.TheVariants.{Secondary}
 use Rattle.active_sets.specs.Active.{hot_at}
 use Rattle.lumos_law.specs.Sync.{values}
 use Rattle.lumos_report.specs.declared.records.Kind.TheVariants.{Fed}
-use Rattle.partition.specs.Parts.{chunk_of}
 use Rattle.early_engine.specs.Passes.{place_at}
 use Rattle.early_engine.proofs.FeedLemmas.{fed_as}
 use Rattle.early_engine.proofs.GridLemmas.{blocks_same, on_grid_same}

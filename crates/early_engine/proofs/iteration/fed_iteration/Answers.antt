@@ -111,7 +111,7 @@ loop-j-preserved g c =
           drop-put_mid first (past - first) c.loop-j.early c.feed_rest.new.sums k (omega (arith, past_is, low, ordered)) (omega (arith, early_long, ordered, inside)) (sums_long ∙ omega (arith, first_is, past_is))
           ∙ kept.rest k (omega (arith, first_is, past_is, ordered, low));
       gone = λ are size need is.
-          let here = λ i within. subst (λ (w : List Bool). AreOf table w are false size need i j) (sym kept.was_hot) (is i j within (omega arith)) in
+          let here : (i : ℕ) → i < cut.parts → AreOf table c.loop-j.active.was_hot are false size need i j = λ i within. subst (λ (w : List Bool). AreOf table w are false size need i j) (sym kept.was_hot) (is i j within (omega arith)) in
           gone_moved size need Fed (places_below Fed cut.parts (j + 1)) _ _ c.in-Ok-make_part.end.moved c.feed_rest.new.counts c.add_moved.new.self added
           (gone_as size need Fed (places_below Fed cut.parts j ++ places Fed cut.parts j) (places_below Fed cut.parts (j + 1)) _ _ c.feed_rest.new.counts (sym (below_more Fed cut.parts j))
           (next.gone are size need (places_below Fed cut.parts j) _ here (kept.gone are size need (λ i k within low. is i k within (omega (arith, low))))));

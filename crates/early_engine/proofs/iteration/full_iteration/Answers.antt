@@ -113,8 +113,8 @@ loop-j-preserved g c =
       gone = λ size need are.
           let flags = c.loop-j.active.is_hot in
           let same = ap (λ (s : ActiveState). s.is_hot) c.mark.ensures.set in
-          let before = λ i k within low. of_before table c.args.active.now.was_hot flags _ c.args.ahead size need j c.in-Ok-make_part.end.hot same i k low (are i k within (omega (arith, low))) in
-          let here = λ i within. subst (λ (w : List Bool). AreOf table w flags c.args.ahead size need i j) (sym kept.was_hot) (before i j within (omega arith)) in
+          let before : (i k : ℕ) → i < cut.parts → k ≤ j → AreOf table c.args.active.now.was_hot flags c.args.ahead size need i k = λ i k within low. of_before table c.args.active.now.was_hot flags _ c.args.ahead size need j c.in-Ok-make_part.end.hot same i k low (are i k within (omega (arith, low))) in
+          let here : (i : ℕ) → i < cut.parts → AreOf table c.loop-j.active.was_hot flags c.args.ahead size need i j = λ i within. subst (λ (w : List Bool). AreOf table w flags c.args.ahead size need i j) (sym kept.was_hot) (before i j within (omega arith)) in
           gone_moved size need Full (places_below Full cut.parts (j + 1)) _ _ c.in-Ok-make_part.end.moved c.feed_full.new.counts c.add_moved.new.self added
           (gone_as size need Full (places_below Full cut.parts j ++ places Full cut.parts j) (places_below Full cut.parts (j + 1)) _ _ c.feed_full.new.counts (sym (below_more Full cut.parts j))
           (next.gone size need (places_below Full cut.parts j) _ here (kept.gone size need (λ i k within low. before i k within (omega (arith, low))))));

@@ -1,4 +1,5 @@
-use Rattle.std.proofs.Common.{◌≡◌, suc, false, sym, ap, ◌∙◌, subst, add-one, arith}
+use Rattle.std.specs.Prelude.{IfErr, IfOk}
+use Rattle.std.proofs.Common.{◌≡◌, ◌<◌, ℕ, suc, Bool, false, sym, ap, ◌∙◌, subst, add-one, arith}
 use Rattle.std.proofs.lemmas.List.{take_at}
 use Rattle.lumos_law.specs.Sync.{values, IsChunk}
 use Rattle.lumos_report.specs.declared.records.Kind.{Kind}
@@ -61,7 +62,9 @@ pub returns-in-Full-clause-gone : goal.returns-in-Full-clause-gone
 returns-in-Full-clause-gone g c size need are =
     let is : Full ≡ kind_of c.args.options.mode c.args.t = sym c.in-Full.is ∙ c.kind_of.ensures in
     let table = c.args.layout.now.table in
-    let here = λ i j row column. subst (λ (a : Bool). AreOf table c.args.room.now.active.was_hot c.full_iteration.new.active.is_hot a size need i j) (sym c.feeds_ahead-ahead.ensures) (are i j row column) in
+    let p = c.args.layout.now.parts.parts in
+    let here : (i j : ℕ) → i < p → j < p → AreOf table c.args.room.now.active.was_hot c.full_iteration.new.active.is_hot c.feeds_ahead-ahead.result size need i j =
+    λ i j row column. subst (λ (a : Bool). AreOf table c.args.room.now.active.was_hot c.full_iteration.new.active.is_hot a size need i j) (sym c.feeds_ahead-ahead.ensures) (are i j row column) in
     subst (λ (k : Kind). IfOk c.full_iteration.result (HasGone k size need (passes k c.args.layout.now.parts.parts) (g.D.Depot.taken c.args.depot.now (file_of k)) (g.D.Depot.taken c.full_iteration.new.depot (file_of k)))) is
     (c.full_iteration.ensures.gone size need here)
 
@@ -76,7 +79,8 @@ returns-in-Fed-clause-gone g c size need are =
     let table = c.args.layout.now.table in
     let flags = c.fed_iteration.new.active.is_hot in
     let none = fed_not_ahead c.args.options.mode c.args.options.iterations c.args.t (sym is) in
-    let here = λ i j row column. subst (λ (a : Bool). AreOf table c.args.room.now.active.was_hot flags a size need i j) none (are i j row column) in
+    let p = c.args.layout.now.parts.parts in
+    let here : (i j : ℕ) → i < p → j < p → AreOf table c.args.room.now.active.was_hot flags false size need i j = λ i j row column. subst (λ (a : Bool). AreOf table c.args.room.now.active.was_hot flags a size need i j) none (are i j row column) in
     subst (λ (k : Kind). IfOk c.fed_iteration.result (HasGone k size need (passes k c.args.layout.now.parts.parts) (g.D.Depot.taken c.args.depot.now (file_of k)) (g.D.Depot.taken c.fed_iteration.new.depot (file_of k)))) is
     (c.fed_iteration.ensures.gone flags size need here)
 

@@ -1,4 +1,4 @@
-use Rattle.std.proofs.Common.{◌≡◌, Bool, List, ap, subst}
+use Rattle.std.proofs.Common.{Bool, List, ap, subst}
 use Rattle.active_sets.specs.Active.{ActiveState}
 use Rattle.early_engine.specs.Gone.{AreOf}
 use Rattle.early_engine.specs.Passes.{feeds_ahead}

@@ -1,5 +1,6 @@
-use Rattle.std.proofs.Common.{Err, suc, length, sym, ◌∙◌, subst, add-one}
+use Rattle.std.proofs.Common.{ℕ, Err, suc, length, sym, ◌∙◌, subst, add-one}
 use Rattle.lumos_law.specs.Sync.{values, IsChunk}
+use Rattle.io_account.specs.declared.Counts.{Counts}
 use Rattle.early_engine.specs.Gone.{HasPassed}
 use Rattle.early_engine.specs.Passes.{file_of, kind_of}
 use Rattle.early_engine.specs.Turns.{RunShows, TurnComes}
@@ -64,7 +65,7 @@ returns-in-Err-clause-reported g c =
     let held = g.O.Sink.written c.args.out.now in
     let mode = c.args.options.mode in
     let limit = c.args.options.iterations in
-    let counted = λ u. HasPassed mode limit c.args.layout.now.table c.args.room.now.active.was_hot c.advance.new.room.active.was_hot u (g.D.Depot.taken c.args.depot.now (file_of (kind_of mode c.args.t))) (g.D.Depot.taken c.advance.new.depot (file_of (kind_of mode c.args.t))) in
+    let counted : ℕ → Counts → Type 0 = λ u. HasPassed mode limit c.args.layout.now.table c.args.room.now.active.was_hot c.advance.new.room.active.was_hot u (g.D.Depot.taken c.args.depot.now (file_of (kind_of mode c.args.t))) (g.D.Depot.taken c.advance.new.depot (file_of (kind_of mode c.args.t))) in
     subst (λ (f : RunFault). TurnReports p c.args.options.show mode limit c.args.layout.now.parts.vertices counted c.args.t items held held (Err f)) (sym c.fault_of.ensures)
     (unreported p c.args.options.show mode limit c.args.layout.now.parts.vertices counted c.args.t c.args.t c.in-Err.stop items held)
 

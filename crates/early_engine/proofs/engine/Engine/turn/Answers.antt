@@ -2,7 +2,7 @@ use Rattle.std.proofs.Common.{◌≡◌, ◌≤◌, ◌+◌, Ok, Err, refl, sym,
 use Rattle.lumos_depot.specs.declared.depot.FileKind.TheVariants.{Primary, Secondary}
 use Rattle.partition.specs.Parts.{Cut}
 use Rattle.lumos_depot.specs.Steps.{RoseBy}
-use Rattle.early_engine.specs.Engines.{EngineState, IsStanding, cut_in}
+use Rattle.early_engine.specs.Engines.{IsStanding, cut_in}
 use Rattle.early_engine.specs.Gone.{HasPassed}
 use Rattle.early_engine.specs.Passes.{file_of, kind_of, primary_bytes, secondary_bytes}
 use Rattle.early_engine.specs.Reported.{IsReported, TurnReports}
@@ -38,16 +38,14 @@ returns-in-Err-clause-told g c edges =
 pub returns-in-Ok-clause-reported : goal.returns-in-Ok-clause-reported
 returns-in-Ok-clause-reported g c =
     let here = c.self.inside in
-    let counted = λ (w : EngineState g.G g.G.Value g.G.Sum) t. HasPassed w.options.mode w.options.iterations w.table w.active c.make_turn.new.room.active.was_hot t (g.D.Depot.taken c.args.depot.now (file_of (kind_of w.options.mode (w.finished + 1)))) (g.D.Depot.taken c.make_turn.new.depot (file_of (kind_of w.options.mode (w.finished + 1)))) in
-    subst (λ w. IsReported (g.G.VertexProgram.model w.program) w.options.show w.options.mode w.options.iterations w.info.vertices (counted w) (w.finished + 1) c.make_turn.new.room.before.items (g.O.Sink.written c.args.out.now) (g.O.Sink.written c.make_turn.new.out) c.in-Ok.turn) c.self.view_is
-    (subst (λ (k : Cut). IsReported (g.G.VertexProgram.model here.program) here.options.show here.options.mode here.options.iterations k.vertices _ (here.finished + 1) c.make_turn.new.room.before.items (g.O.Sink.written c.args.out.now) (g.O.Sink.written c.make_turn.new.out) c.in-Ok.turn) c.self.invariant.cut_fits c.in-Ok.ensures.reported)
+    subst (λ w. IsReported (g.G.VertexProgram.model w.program) w.options.show w.options.mode w.options.iterations w.info.vertices (λ t. HasPassed w.options.mode w.options.iterations w.table w.active c.make_turn.new.room.active.was_hot t (g.D.Depot.taken c.args.depot.now (file_of (kind_of w.options.mode (w.finished + 1)))) (g.D.Depot.taken c.make_turn.new.depot (file_of (kind_of w.options.mode (w.finished + 1))))) (w.finished + 1) c.make_turn.new.room.before.items (g.O.Sink.written c.args.out.now) (g.O.Sink.written c.make_turn.new.out) c.in-Ok.turn) c.self.view_is
+    (subst (λ (k : Cut). IsReported (g.G.VertexProgram.model here.program) here.options.show here.options.mode here.options.iterations k.vertices (λ t. HasPassed here.options.mode here.options.iterations here.layout.table here.room.active.was_hot c.make_turn.new.room.active.was_hot t (g.D.Depot.taken c.args.depot.now (file_of (kind_of here.options.mode (here.finished + 1)))) (g.D.Depot.taken c.make_turn.new.depot (file_of (kind_of here.options.mode (here.finished + 1))))) (here.finished + 1) c.make_turn.new.room.before.items (g.O.Sink.written c.args.out.now) (g.O.Sink.written c.make_turn.new.out) c.in-Ok.turn) c.self.invariant.cut_fits c.in-Ok.ensures.reported)
 
 pub returns-in-Err-clause-reported : goal.returns-in-Err-clause-reported
 returns-in-Err-clause-reported g c =
     let here = c.self.inside in
-    let counted = λ (w : EngineState g.G g.G.Value g.G.Sum) t. HasPassed w.options.mode w.options.iterations w.table w.active c.make_turn.new.room.active.was_hot t (g.D.Depot.taken c.args.depot.now (file_of (kind_of w.options.mode (w.finished + 1)))) (g.D.Depot.taken c.make_turn.new.depot (file_of (kind_of w.options.mode (w.finished + 1)))) in
-    subst (λ w. TurnReports (g.G.VertexProgram.model w.program) w.options.show w.options.mode w.options.iterations w.info.vertices (counted w) (w.finished + 1) c.make_turn.new.room.before.items (g.O.Sink.written c.args.out.now) (g.O.Sink.written c.make_turn.new.out) (Err c.in-Err.fault)) c.self.view_is
-    (subst (λ (k : Cut). TurnReports (g.G.VertexProgram.model here.program) here.options.show here.options.mode here.options.iterations k.vertices _ (here.finished + 1) c.make_turn.new.room.before.items (g.O.Sink.written c.args.out.now) (g.O.Sink.written c.make_turn.new.out) (Err c.in-Err.fault)) c.self.invariant.cut_fits c.in-Err.ensures.reported)
+    subst (λ w. TurnReports (g.G.VertexProgram.model w.program) w.options.show w.options.mode w.options.iterations w.info.vertices (λ t. HasPassed w.options.mode w.options.iterations w.table w.active c.make_turn.new.room.active.was_hot t (g.D.Depot.taken c.args.depot.now (file_of (kind_of w.options.mode (w.finished + 1)))) (g.D.Depot.taken c.make_turn.new.depot (file_of (kind_of w.options.mode (w.finished + 1))))) (w.finished + 1) c.make_turn.new.room.before.items (g.O.Sink.written c.args.out.now) (g.O.Sink.written c.make_turn.new.out) (Err c.in-Err.fault)) c.self.view_is
+    (subst (λ (k : Cut). TurnReports (g.G.VertexProgram.model here.program) here.options.show here.options.mode here.options.iterations k.vertices (λ t. HasPassed here.options.mode here.options.iterations here.layout.table here.room.active.was_hot c.make_turn.new.room.active.was_hot t (g.D.Depot.taken c.args.depot.now (file_of (kind_of here.options.mode (here.finished + 1)))) (g.D.Depot.taken c.make_turn.new.depot (file_of (kind_of here.options.mode (here.finished + 1))))) (here.finished + 1) c.make_turn.new.room.before.items (g.O.Sink.written c.args.out.now) (g.O.Sink.written c.make_turn.new.out) (Err c.in-Err.fault)) c.self.invariant.cut_fits c.in-Err.ensures.reported)
 
 pub returns-in-Err-clause-shows : goal.returns-in-Err-clause-shows
 returns-in-Err-clause-shows g c =

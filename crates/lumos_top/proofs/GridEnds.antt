@@ -518,7 +518,7 @@ module _ {V S : Type 0} (ValueIn : V → Type 0) (SumIn : S → Type 0) (p : Pro
 
 pub damaged_open : (info : GridInfo) (told : Option (List ℕ)) (fault : OpenFault) → OpenShows info told fault → IfDamaged (open_stop_of fault) IsWrongIn
 damaged_open info told (open_fault.BudgetTooSmall need given) h = tt
-damaged_open info told (open_fault.Damaged kind place found) h = inl (h.0, (info.edges, h.1))
+damaged_open info told (open_fault.Damaged kind place found) h = inl (h.0, (info, h.1))
 damaged_open info told open_fault.Depot h = tt
 damaged_open info told open_fault.NoMemory h = tt
 

@@ -10,8 +10,10 @@ pub mod OpenLemmas
 pub mod OverLemmas
 pub mod PassLemmas
 pub mod PassSteps
+pub mod PassedLemmas
 pub mod ReadLemmas
 pub mod Repeats
+pub mod ReportLemmas
 pub mod RunLemmas
 pub mod StandLemmas
 pub mod StartLemmas

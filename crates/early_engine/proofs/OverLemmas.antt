@@ -30,7 +30,11 @@ found_passes : (q : ℕ → Bool) (a n v : ℕ) → find q (range_with_len a n) 
 found_passes q a zero v found = absurd (cc)
 found_passes q a (suc n) v found = passes_by q a n v (q a) refl (found_passes q (a + 1) n v) found
 
-list_chunk : {X : Type 0} (xs : List X) (first : ℕ) (x : X) → IsChunk (λ u. get_or xs (u - first) x) first xs
+-- what a list has for the vertices from `first` on
+abbrev pub list_state : {X : Type 0} → List X → ℕ → X → ℕ → X
+list_state xs first x u = get_or xs (u - first) x
+
+pub list_chunk : {X : Type 0} (xs : List X) (first : ℕ) (x : X) → IsChunk (list_state xs first x) first xs
 list_chunk xs first x = record {
   at = λ d k below.
       let place : k ≡ first + k - first = omega arith in

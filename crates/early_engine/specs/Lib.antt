@@ -1,11 +1,13 @@
 pub mod Core
 pub mod Early
 pub mod Engines
+pub mod Gone
 pub mod Grids
 pub mod Making
 pub mod Opens
 pub mod Passes
 pub mod Report
+pub mod Reported
 pub mod Runs
 pub mod Starts
 pub mod Steps

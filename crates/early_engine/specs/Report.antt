@@ -7,6 +7,8 @@ use Rattle.lumos_depot.specs.declared.stream.Failed.{Failed}
 use Rattle.lumos_law.specs.Program.{Program}
 use Rattle.lumos_law.specs.Sync.{Ending as EndingOf, over_in, still_in, limit_at, ending, moved_count, values}
 use Rattle.grid_format.specs.Grid.{grid_head}
+use Rattle.grid_format.specs.declared.head.GridInfo.{GridInfo}
+use Rattle.io_account.specs.declared.Counts.{Counts}
 use Rattle.lumos_report.specs.Report.{counts_line, ending_line, head_line, value_line, zero_line}
 use Rattle.lumos_report.specs.declared.records.Why.TheVariants.{Still, Limit}
 use Rattle.early_engine.specs.Passes.{counts_in, kind_of}
@@ -38,16 +40,23 @@ module _ {V S : Type 0} (p : Program V S) where
   shown_lines All state n = flat_map (λ v. value_line v (p.show (state v))) (range_with_len 0 n)
   shown_lines Brief state n = []
 
-  -- the lines before the first iteration, over edges between n vertices that are cut into `parts` parts
-  abbrev pub first_lines : List ℕ → Show → List Edge → ℕ → ℕ → List ℕ
-  first_lines name show edges n parts =
-      head_line name (grid_head edges n parts) ++ (zero_line ++ shown_lines show (values p edges 0) n)
+  -- the lines before the first iteration over a grid with this head, where each vertex v has the value `state v` at first
+  abbrev pub opening_lines : List ℕ → Show → GridInfo → (ℕ → V) → List ℕ
+  opening_lines name show info state = head_line name info ++ (zero_line ++ shown_lines show state info.vertices)
 
-  -- the lines of iteration t + 1 in a run of at most `limit` iterations: its blocks, how many values moved, and the values
+  -- those over edges between n vertices that are cut into `parts` parts
+  abbrev pub first_lines : List ℕ → Show → List Edge → ℕ → ℕ → List ℕ
+  first_lines name show edges n parts = opening_lines name show (grid_head edges n parts) (values p edges 0)
+
+  -- the lines of iteration t over n vertices: its blocks, how many values moved, and the values after it, where each
+  -- vertex v has the value `state v`
+  abbrev pub stage_lines : Show → Mode → ℕ → ℕ → Counts → (ℕ → V) → List ℕ
+  stage_lines show mode n t counts state = counts_line t (kind_of mode t) counts ++ shown_lines show state n
+
+  -- those of iteration t + 1 in a run of at most `limit` iterations over edges
   abbrev pub turn_lines : Show → Mode → List Edge → ℕ → ℕ → ℕ → ℕ → List ℕ
   turn_lines show mode edges n parts limit t =
-      counts_line (suc t) (kind_of mode (suc t)) (counts_in p edges n parts mode limit (suc t) (moved_count p edges n t))
-      ++ shown_lines show (values p edges (suc t)) n
+      stage_lines show mode n (suc t) (counts_in p edges n parts mode limit (suc t) (moved_count p edges n t)) (values p edges (suc t))
 
   -- what iteration t + 1 writes in a run of at most `limit` iterations: its lines, and the last line where the run ends with it
   abbrev pub turn_text : Show → Mode → List Edge → ℕ → ℕ → ℕ → ℕ → List ℕ

@@ -12,6 +12,7 @@ ghost use Rattle.lumos_depot.specs.Steps.{Reads, RoseBy};
 ghost use Rattle.grid_format.specs.Tables.{BlockCounts};
 ghost use Rattle.early_engine.specs.Engines.{cut_in};
 ghost use Rattle.early_engine.specs.Grids.{IsOnGrid};
+ghost use Rattle.early_engine.specs.Reported.{IsOpening};
 ghost use Rattle.early_engine.specs.Starts.{IsFromOutside, StartComes, given_values};
 ghost use Rattle.grid_format.specs.Grid.{grid_head};
 
@@ -94,6 +95,7 @@ pub(crate) fn make_start<G: VertexProgram, D: Depot, O: Sink>(
     ensures told { (edges : List Edge) (table : BlockCounts) → IsOnGrid edges (cut_in info) table (D.holds depot.old)
         → info ≡ grid_head edges info.vertices info.parts
         → StartComes (G.model program.now) (G.name_text program.now) show edges (cut_in info) values.new (O.written out.old) (O.written out.new) result }
+    ensures opened { OnOk result (IsOpening (G.model program.now) (G.name_text program.now) show info values.new (O.written out.old) (O.written out.new)) }
     ensures taken { OnOk result (RoseBy (D.taken depot.old FileKind.Info) (D.taken depot.new FileKind.Info) (12 * info.vertices)) }
     ensures outside { IfErr result IsFromOutside }
     ensures reads { Reads D.holds D.taken D.stored D.faults D.attached FileKind.Info depot.old depot.new }

@@ -28,12 +28,14 @@ use Rattle.lumos_report.specs.declared.records.Ending.{Ending as EndingRecord}
 use Rattle.lumos_report.specs.declared.records.Why.{Why}
 use Rattle.lumos_report.specs.declared.records.Why.TheVariants.{Still, Limit}
 use Rattle.early_engine.specs.Engines.{EngineState, IsOpened}
-use Rattle.early_engine.specs.Passes.{primary_taken, secondary_taken}
+use Rattle.lumos_report.specs.declared.records.Kind.{Kind}
+use Rattle.lumos_report.specs.declared.records.Kind.TheVariants.{Full, Fed}
+use Rattle.early_engine.specs.Passes.{file_of, kind_of, primary_taken, secondary_taken}
 use Rattle.early_engine.specs.Opens.{OpenShows}
 use Rattle.early_engine.specs.Report.{finished, report}
 use Rattle.early_engine.specs.Runs.{RunComes, Streams}
 use Rattle.early_engine.specs.Making.{IsOver}
-use Rattle.early_engine.specs.Turns.{RunIsOver, RunShows, ending_by_why}
+use Rattle.early_engine.specs.Turns.{SomeShows, ending_by_why}
 use Rattle.grid_format.specs.Tables.{BlockCounts}
 use Rattle.early_engine.specs.declared.options.Mode.{Mode}
 use Rattle.early_engine.specs.declared.options.OpenFault.{OpenFault}
@@ -454,6 +456,14 @@ module _ {D : Type 0} (h : D → FileKind → Option (List ℕ)) (t s : D → Fi
     sums_stored = stored Sums;
   }
 
+values_apart : (kind : Kind) → Values ≡ file_of kind → ⊥
+values_apart Full e = let d : Values ≡ Primary = e in cc
+values_apart Fed e = let d : Values ≡ Secondary = e in cc
+
+sums_apart : (kind : Kind) → Sums ≡ file_of kind → ⊥
+sums_apart Full e = let d : Sums ≡ Primary = e in cc
+sums_apart Fed e = let d : Sums ≡ Secondary = e in cc
+
 module _ {D : Type 0} (h : D → FileKind → Option (List ℕ)) (t s : D → FileKind → ℕ) (f : D → ℕ) (a : D → Option (List ℕ)) where
   pub build_leaves : (old new : D) → BuildLeaves h t s f a old new → LeavesRuns h t s old new
   build_leaves old new b = record {
@@ -475,12 +485,12 @@ module _ {D : Type 0} (h : D → FileKind → Option (List ℕ)) (t s : D → Fi
     sums_stored = b.stored Sums;
   }
 
-  pub run_leaves_files : (old new : D) → Streams h t s f a old new → LeavesRuns h t s old new
-  run_leaves_files old new b = record {
+  pub run_leaves_files : (mode : Mode) (limit : ℕ) (old new : D) → Streams h t s f a mode limit old new → LeavesRuns h t s old new
+  run_leaves_files mode limit old new b = record {
     values = b.contents Values;
     sums = b.contents Sums;
-    values_taken = b.taken Values (λ e. cc) (λ e. cc) (λ e. cc);
-    sums_taken = b.taken Sums (λ e. cc) (λ e. cc) (λ e. cc);
+    values_taken = b.taken Values (λ e. cc) (λ u some few e. values_apart (kind_of mode u) e);
+    sums_taken = b.taken Sums (λ e. cc) (λ u some few e. sums_apart (kind_of mode u) e);
     values_stored = b.stored Values;
     sums_stored = b.stored Sums;
   }
@@ -493,17 +503,18 @@ over_end ValueIn SumIn p end = by_why end.why end.iterations
     by_why Still t = tt
     by_why Limit t = tt
 
-pub over_stop : {V S : Type 0} (ValueIn : V → Type 0) (SumIn : S → Type 0) (p : Program V S) (fault : RunFault) → RunIsOver ValueIn SumIn p fault → IfOk (run_stop_of fault) (λ end. IfOver end (IsOver ValueIn SumIn p))
-over_stop ValueIn SumIn p run_fault.Depot h = tt
-over_stop ValueIn SumIn p run_fault.Out h = tt
-over_stop ValueIn SumIn p (run_fault.Range iteration vertex) h = h
-over_stop ValueIn SumIn p (run_fault.Damaged kind place found) h = tt
+module _ {V S : Type 0} (ValueIn : V → Type 0) (SumIn : S → Type 0) (p : Program V S) (mode : Mode) (limit : ℕ) (cut : Cut) (table : BlockCounts) where
+  pub over_stop : (fault : RunFault) → SomeShows ValueIn SumIn p mode limit cut table fault → IfOk (run_stop_of fault) (λ end. IfOver end (IsOver ValueIn SumIn p))
+  over_stop run_fault.Depot h = tt
+  over_stop run_fault.Out h = tt
+  over_stop (run_fault.Range iteration vertex) h = h.shown.2
+  over_stop (run_fault.Damaged kind place found) h = tt
 
-pub damaged_stop : (cut : Cut) (table : BlockCounts) (fault : RunFault) → RunShows cut table fault → IfErr (run_stop_of fault) (λ why. IfDamaged why IsWrongIn)
-damaged_stop cut table run_fault.Depot h = tt
-damaged_stop cut table run_fault.Out h = tt
-damaged_stop cut table (run_fault.Range iteration vertex) h = tt
-damaged_stop cut table (run_fault.Damaged kind place found) h = inr (cut, table, h)
+  pub damaged_stop : (fault : RunFault) → SomeShows ValueIn SumIn p mode limit cut table fault → IfErr (run_stop_of fault) (λ why. IfDamaged why IsWrongIn)
+  damaged_stop run_fault.Depot h = tt
+  damaged_stop run_fault.Out h = tt
+  damaged_stop (run_fault.Range iteration vertex) h = tt
+  damaged_stop (run_fault.Damaged kind place found) h = inr (kind_of mode h.iteration, cut, table, h.shown)
 
 pub damaged_open : (info : GridInfo) (told : Option (List ℕ)) (fault : OpenFault) → OpenShows info told fault → IfDamaged (open_stop_of fault) IsWrongIn
 damaged_open info told (open_fault.BudgetTooSmall need given) h = tt

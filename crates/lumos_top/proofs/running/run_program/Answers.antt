@@ -3,8 +3,9 @@ use Rattle.std.proofs.Common.{Ok, Err, sym, subst}
 use Rattle.lumos_depot.specs.declared.depot.FileKind.TheVariants.{Meta, Primary, Secondary}
 use Rattle.lumos_law.specs.Sync.{ending}
 use Rattle.lumos_depot.specs.Steps.{RoseBy}
+use Rattle.early_engine.specs.Engines.{cut_in}
 use Rattle.early_engine.specs.Making.{IsOver}
-use Rattle.early_engine.specs.Turns.{RunIsOver}
+use Rattle.early_engine.specs.Turns.{SomeShows}
 use Rattle.early_engine.specs.Passes.{primary_taken, secondary_taken}
 use Rattle.early_engine.specs.Report.{report}
 use Rattle.early_engine.specs.Runs.{RunComes}
@@ -65,14 +66,14 @@ returns-in-Ok-run-clause-runs g c =
     let h = g.D.Depot.holds in
     let t = g.D.Depot.taken in
     let s = g.D.Depot.stored in
-    leaves_then h t s _ _ _ (open_leaves h t s g.D.Depot.faults g.D.Depot.attached _ _ c.open.ensures.reads) (run_leaves_files h t s g.D.Depot.faults g.D.Depot.attached _ _ c.run.ensures.streams)
+    leaves_then h t s _ _ _ (open_leaves h t s g.D.Depot.faults g.D.Depot.attached _ _ c.open.ensures.reads) (run_leaves_files h t s g.D.Depot.faults g.D.Depot.attached _ _ _ _ c.run.ensures.streams)
 
 pub returns-in-Err-run-clause-runs : goal.returns-in-Err-run-clause-runs
 returns-in-Err-run-clause-runs g c =
     let h = g.D.Depot.holds in
     let t = g.D.Depot.taken in
     let s = g.D.Depot.stored in
-    leaves_then h t s _ _ _ (open_leaves h t s g.D.Depot.faults g.D.Depot.attached _ _ c.open.ensures.reads) (run_leaves_files h t s g.D.Depot.faults g.D.Depot.attached _ _ c.run.ensures.streams)
+    leaves_then h t s _ _ _ (open_leaves h t s g.D.Depot.faults g.D.Depot.attached _ _ c.open.ensures.reads) (run_leaves_files h t s g.D.Depot.faults g.D.Depot.attached _ _ _ _ c.run.ensures.streams)
 
 pub returns-in-Err-clause-damaged : goal.returns-in-Err-clause-damaged
 returns-in-Err-clause-damaged g c = subst (λ why. IfDamaged why IsWrongIn) (sym c.open_stop.ensures) (damaged_open c.args.info (g.D.Depot.holds c.args.depot.now Meta) c.in-Err.fault c.in-Err.ensures.damaged)
@@ -83,10 +84,11 @@ returns-in-Ok-run-clause-over g c =
 
 pub returns-in-Err-run-clause-over : goal.returns-in-Err-run-clause-over
 returns-in-Err-run-clause-over g c =
-    let over = subst (λ pr. RunIsOver g.G.Value.Fixed.is_in_range g.G.Sum.Fixed.is_in_range (g.G.VertexProgram.model pr) c.in-Err-run.fault) c.in-Ok.ensures.program c.in-Err-run.ensures.over in
+    let e = c.in-Ok.engine in
+    let shows = subst (λ pr. SomeShows g.G.Value.Fixed.is_in_range g.G.Sum.Fixed.is_in_range (g.G.VertexProgram.model pr) e.options.mode e.options.iterations (cut_in e.info) e.table c.in-Err-run.fault) c.in-Ok.ensures.program c.in-Err-run.ensures.shows in
     subst (λ r. IfOk r (λ end. IfOver end (IsOver g.G.Value.Fixed.is_in_range g.G.Sum.Fixed.is_in_range (g.G.VertexProgram.model c.args.program)))) (sym c.run_stop.ensures)
-    (over_stop g.G.Value.Fixed.is_in_range g.G.Sum.Fixed.is_in_range (g.G.VertexProgram.model c.args.program) c.in-Err-run.fault over)
+    (over_stop g.G.Value.Fixed.is_in_range g.G.Sum.Fixed.is_in_range (g.G.VertexProgram.model c.args.program) e.options.mode e.options.iterations (cut_in e.info) e.table c.in-Err-run.fault shows)
 
 pub returns-in-Err-run-clause-damaged : goal.returns-in-Err-run-clause-damaged
 returns-in-Err-run-clause-damaged g c =
-    subst (λ r. IfErr r (λ why. IfDamaged why IsWrongIn)) (sym c.run_stop.ensures) (damaged_stop _ _ c.in-Err-run.fault c.in-Err-run.ensures.damaged)
+    subst (λ r. IfErr r (λ why. IfDamaged why IsWrongIn)) (sym c.run_stop.ensures) (damaged_stop g.G.Value.Fixed.is_in_range g.G.Sum.Fixed.is_in_range _ _ _ _ _ c.in-Err-run.fault c.in-Err-run.ensures.shows)

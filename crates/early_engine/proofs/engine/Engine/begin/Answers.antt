@@ -4,6 +4,7 @@ use Rattle.lumos_law.specs.Sync.{values, IsChunk}
 use Rattle.partition.specs.Parts.{Cut}
 use Rattle.early_engine.specs.Early.{IsKept}
 use Rattle.early_engine.specs.Engines.{IsOpened, cut_in}
+use Rattle.early_engine.specs.Reported.{IsOpening}
 use Rattle.early_engine.specs.Starts.{StartComes}
 use Rattle.early_engine.proofs.StandLemmas.{core_first, kept_first, stands_first}
 use Rattle.early_engine.proofs.engine.Engine.begin.Goals as goal
@@ -34,6 +35,18 @@ returns-in-Err-clause-told g c edges =
     subst (λ w. IsOpened edges told w → StartComes (model w.program) (name w.program) w.options.show edges (cut_in w.info) (take was.len (values ++ drop (length values) was.items)) held after (Err c.in-Err.fault)) c.self.view_is
     (λ opened. subst (λ xs. StartComes (model c.self.inside.program) (name c.self.inside.program) c.self.inside.options.show edges (cut_in c.self.inside.info) xs held after (Err c.in-Err.fault))
     (sym (take_at values (drop (length values) was.items) was.len put)) (c.in-Err.ensures.told edges c.self.inside.layout.table opened.grid opened.head))
+
+pub returns-in-Ok-clause-opened : goal.returns-in-Ok-clause-opened
+returns-in-Ok-clause-opened g c =
+    let model = g.G.VertexProgram.model in
+    let name = g.G.VertexProgram.name_text in
+    let held = g.O.Sink.written c.args.out.now in
+    let after = g.O.Sink.written c.make_start.new.out in
+    let values = c.make_start.new.values in
+    let was = c.self.inside.room.before in
+    let put = c.make_start.auto.values ∙ c.deref_mut.ensures.len in
+    subst (λ w. IsOpening (model w.program) (name w.program) w.options.show w.info (take was.len (values ++ drop (length values) was.items)) held after) c.self.view_is
+    (rw (take_at values (drop (length values) was.items) was.len put) c.in-Ok.ensures.opened)
 
 pub returns-in-Ok-clause-stands : goal.returns-in-Ok-clause-stands
 returns-in-Ok-clause-stands g c edges opened ok =

@@ -4,6 +4,7 @@ ghost use Rattle.lumos_base.specs.declared.records.Edge.{Edge};
 ghost use Rattle.lumos_depot.specs.Causes.{Rose};
 ghost use Rattle.lumos_depot.specs.declared.depot.FileKind.{FileKind};
 ghost use Rattle.lumos_law.specs.Sync.{ending};
+ghost use Rattle.lumos_report.specs.declared.records.Kind.{Kind};
 ghost use Rattle.partition.specs.Parts.{chunk_of};
 ghost use Rattle.grid_format.specs.Checks.{GridFiles, head_of};
 ghost use Rattle.grid_format.specs.Grid.{HasGrid, grid};
@@ -14,12 +15,12 @@ ghost use Rattle.lumos_base.specs.Records.{IsEdge};
 ghost use Rattle.early_engine.specs.Core.{IsCoreState};
 ghost use Rattle.early_engine.specs.Engines.{IsOpened, IsSameRun, IsStanding, cut_in};
 ghost use Rattle.early_engine.specs.Gone.{HasPassed};
-ghost use Rattle.early_engine.specs.Grids.{HasBlocks};
+ghost use Rattle.early_engine.specs.Grids.{HasBlocks, bytes_in};
 ghost use Rattle.early_engine.specs.Opens.{OpenShows};
 ghost use Rattle.early_engine.specs.Passes.{file_of, kind_of, primary_bytes, primary_taken, secondary_bytes, secondary_taken};
 ghost use Rattle.early_engine.specs.Report.{report};
 ghost use Rattle.early_engine.specs.Reported.{IsOpening, IsReport, TurnReports};
-ghost use Rattle.early_engine.specs.Runs.{RunComes, Streams};
+ghost use Rattle.early_engine.specs.Runs.{RunComes, Streams, most_taken};
 ghost use Rattle.early_engine.specs.Starts.{IsFromOutside, StartComes, phase_begun};
 ghost use Rattle.early_engine.specs.Turns.{RunShows, SomeShows, TurnComes, phase_after, phase_of};
 
@@ -275,6 +276,8 @@ impl<G: VertexProgram> Engine<G> {
             → OnOk result (RoseBy (D.taken depot.old FileKind.Secondary) (D.taken depot.new FileKind.Secondary)
             (secondary_bytes (G.model self.old.program) edges self.old.info.vertices self.old.info.parts self.old.options.mode self.old.options.iterations (self.old.finished + 1))) }
         ensures shows { IfErr result (RunShows G.Value.is_in_range G.Sum.is_in_range (G.model self.old.program) self.old.options.mode (cut_in self.old.info) self.old.table (self.old.finished + 1)) }
+        ensures most { D.taken depot.new (file_of (kind_of self.old.options.mode (self.old.finished + 1)))
+            ≤ D.taken depot.old (file_of (kind_of self.old.options.mode (self.old.finished + 1))) + bytes_in (kind_of self.old.options.mode (self.old.finished + 1)) self.old.table }
         ensures reads { Reads D.holds D.taken D.stored D.faults D.attached (file_of (kind_of self.old.options.mode (self.old.finished + 1))) depot.old depot.new }
         ensures depot { result ≡ Err RunFault.Depot → Rose (D.faults depot.old) (D.faults depot.new) }
         ensures later { O.faults out.old ≤ O.faults out.new }
@@ -334,6 +337,7 @@ impl<G: VertexProgram> Engine<G> {
             (secondary_taken (G.model self.program) edges self.info.vertices self.info.parts self.options.mode self.options.iterations end.iterations)) }
         ensures info_taken { OnOk result (RoseBy (D.taken depot.old FileKind.Info) (D.taken depot.new FileKind.Info) (12 * self.info.vertices)) }
         ensures shows { IfErr result (SomeShows G.Value.is_in_range G.Sum.is_in_range (G.model self.program) self.options.mode self.options.iterations (cut_in self.info) self.table) }
+        ensures most { (kind : Kind) → D.taken depot.new (file_of kind) ≤ D.taken depot.old (file_of kind) + most_taken kind self.options.mode self.table self.options.iterations }
         ensures streams { Streams D.holds D.taken D.stored D.faults D.attached self.options.mode self.options.iterations depot.old depot.new }
         ensures depot { result ≡ Err RunFault.Depot → Rose (D.faults depot.old) (D.faults depot.new) }
         ensures later { O.faults out.old ≤ O.faults out.new }

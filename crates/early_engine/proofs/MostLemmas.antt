@@ -1,5 +1,5 @@
 -- The most bytes that an iteration takes.
-use Rattle.std.proofs.Common.{◌≡◌, ◌≤◌, ℕ, ◌+◌, ◌*◌, sum, take, ap, ◌∙◌, arith, add-one}
+use Rattle.std.proofs.Common.{◌≡◌, ◌≤◌, ℕ, ◌+◌, sum, take, ap, ◌∙◌, arith, add-one}
 use Rattle.std.specs.Prelude.{sum_by}
 use Rattle.std.specs.List.{range_with_len}
 use Rattle.std.proofs.lemmas.List.Sums.{sum_by-take-le, sum_by_push}
@@ -42,10 +42,10 @@ pub most_more : (kind : Kind) (mode m : Mode) (table t : BlockCounts) (done limi
     → (new (file_of kind) ≤ first (file_of kind) + most_taken kind mode table (done + 1)) × (new (file_of kind) ≤ first (file_of kind) + most_taken kind mode table limit)
 most_more kind mode m table t done limit first old new same_mode same_table low before most same =
     let one = most_one (kind_of m (done + 1)) kind t old new most same in
-    let as = ap (λ (k : Mode). most_by kind (kind_of k (done + 1)) t) same_mode ∙ ap (λ (b : BlockCounts). most_by kind (kind_of mode (done + 1)) b) same_table in
+    let other = ap (λ (k : Mode). most_by kind (kind_of k (done + 1)) t) same_mode ∙ ap (λ (b : BlockCounts). most_by kind (kind_of mode (done + 1)) b) same_table in
     let place : 1 + done ≡ done + 1 = omega arith in
     let more : most_taken kind mode table (done + 1) ≡ most_taken kind mode table done + most_by kind (kind_of mode (done + 1)) table =
     ap (λ (n : ℕ). most_taken kind mode table n) (add-one done) ∙ ap (sum_by (λ u. most_by kind (kind_of mode u) table)) (range_more 1 done) ∙ sum_by_push (λ u. most_by kind (kind_of mode u) table) (range_with_len 1 done) (1 + done)
     ∙ ap (λ (u : ℕ). most_taken kind mode table done + most_by kind (kind_of mode u) table) place in
     let few = sum-range-le (λ u. most_by kind (kind_of mode u) table) 1 (done + 1) limit low in
-    (omega (arith, before, one, as, more), omega (arith, before, one, as, more, few))
+    (omega (arith, before, one, other, more), omega (arith, before, one, other, more, few))

@@ -248,7 +248,8 @@ impl<G: VertexProgram> Engine<G> {
     /// Over every depot, also one that tells nothing: where it answers Ok, each block of the iteration was read, skipped or
     /// empty, by the grid's numbers of edges and by the chunks that were hot before it and are hot after it; twelve bytes were
     /// taken for each edge of the blocks that were read; and what was written is the line of these counts, the values that
-    /// are kept then, and the last line exactly where the run ended. After a fault other than `Out` nothing was written.
+    /// are kept then, and the last line exactly where the run ended. After a fault other than `Out` nothing was written; and
+    /// after every answer at most twelve bytes were taken for each edge of the blocks that the iteration goes through.
     pub fn turn<D: Depot, O: Sink>(&mut self, depot: &mut D, out: &mut O) -> Result<Turn, RunFault>
         requires attached { IsSome (D.attached depot.old) }
         requires inside { HasBlocks self.old.table (D.holds depot.old) }
@@ -315,9 +316,12 @@ impl<G: VertexProgram> Engine<G> {
     /// where the run ends so; the report then ends after the last finished iteration. `Out` and `Depot` come only where the
     /// counts of faults of the sink and of the depot rose, and leave a front of the report. `Damaged` never comes over the
     /// files of a grid that are told; it carries a word of a block's records that names a vertex outside its part, and the
-    /// block is one that some iteration goes through, in the file of its kind. Over every depot, also one that tells nothing,
-    /// Ok says that a whole report stands on `out`: of each iteration up to the last the counts of all its blocks, and some
-    /// values, and the line of the ending that is answered. What is counted of Secondary stays where all iterations are full.
+    /// block is one that some iteration goes through, in the file of its kind.
+    ///
+    /// Over every depot, also one that tells nothing, Ok says that a whole report stands on `out`: of each iteration up to the
+    /// last the counts of all its blocks, and some values, and the line of the ending that is answered. What is counted of
+    /// Secondary stays where all iterations are full. After every answer at most twelve bytes were taken of each layout for
+    /// each edge of its blocks, in each iteration that reads it.
     pub fn run<D: Depot, O: Sink>(self, depot: &mut D, out: &mut O) -> Result<Ending, RunFault>
         requires attached { IsSome (D.attached depot.old) }
         requires info { IfSome (D.holds depot.old FileKind.Info) (λ file. 12 * self.info.vertices ≤ length file) }

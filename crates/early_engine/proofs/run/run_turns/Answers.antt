@@ -126,7 +126,7 @@ loop-turn-preserved g c =
       most = λ kind.
           subst (λ (n : ℕ). g.D.Depot.taken c.turn.new.depot (file_of kind) ≤ g.D.Depot.taken c.args.depot.now (file_of kind) + most_taken kind c.args.engine.now.options.mode c.args.engine.now.table n) (sym next.finished)
           (most_more kind c.args.engine.now.options.mode c.loop-turn.engine.options.mode c.args.engine.now.table c.loop-turn.engine.table c.loop-turn.engine.finished c.args.engine.now.options.iterations
-    (g.D.Depot.taken c.args.depot.now) (g.D.Depot.taken c.loop-turn.depot) (g.D.Depot.taken c.turn.new.depot) (ap (λ (o : RunOptions). o.mode) kept.same.options) kept.same.table (omega (arith, kept.left, c.requires.all)) (kept.most kind) next.most next.reads.taken).0;
+          (g.D.Depot.taken c.args.depot.now) (g.D.Depot.taken c.loop-turn.depot) (g.D.Depot.taken c.turn.new.depot) (ap (λ (o : RunOptions). o.mode) kept.same.options) kept.same.table (omega (arith, kept.left, c.requires.all)) (kept.most kind) next.most next.reads.taken).0;
       reports =
           let k = key_of c.args.engine.now in
           let made = turn_tallied model c.args.engine.now w kept.same new.values new.active _ _ _ _ c.in-Ok-Going.field-0 next.reported in

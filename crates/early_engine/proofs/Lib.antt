@@ -6,6 +6,7 @@ pub mod GridLemmas
 pub mod HotLemmas
 pub mod KindLemmas
 pub mod MadeLemmas
+pub mod MostLemmas
 pub mod OpenLemmas
 pub mod OverLemmas
 pub mod PassLemmas

@@ -9,7 +9,7 @@ use Rattle.lumos_base.specs.declared.records.Edge.{Edge}
 use Rattle.lumos_base.specs.declared.records.Vertex.{Vertex}
 use Rattle.lumos_depot.specs.declared.depot.FileKind.{FileKind}
 use Rattle.lumos_law.specs.Program.{Program, Lawful}
-use Rattle.lumos_law.specs.Sync.{moved_count, sum_at, values, IsChunk}
+use Rattle.lumos_law.specs.Sync.{sum_at, values, IsChunk}
 use Rattle.lumos_law.proofs.ChunkLemmas.{chunk_append, chunk_same}
 use Rattle.lumos_law.proofs.ValueLemmas.{values_in}
 use Rattle.partition.specs.Parts.{Cut, chunk_of, first_vertex, part_length, IsInPart}

@@ -1,6 +1,5 @@
 -- What an iteration went through, by the table and the flags, and by the edges where they are told.
-use Rattle.std.proofs.Common.{◌≡◌, ◌<◌, ℕ, suc, Bool, List, Option, Ok, refl, sym, ap}
-use Rattle.std.specs.Prelude.{IfOk}
+use Rattle.std.proofs.Common.{◌≡◌, ◌<◌, ℕ, suc, Bool, List, Option, refl, sym, ap}
 use Rattle.active_sets.specs.Active.{hot_at}
 use Rattle.lumos_base.specs.declared.records.Edge.{Edge}
 use Rattle.lumos_depot.specs.Steps.{RoseBy}

@@ -20,7 +20,7 @@ primary_apart e = cc
 secondary_apart : Secondary ≢ Primary
 secondary_apart e = cc
 
-infos_apart : (kind : Kind) → Info ≢ file_of kind
+pub infos_apart : (kind : Kind) → Info ≢ file_of kind
 infos_apart Full e = let d : Info ≡ Primary = e in cc
 infos_apart Fed e = let d : Info ≡ Secondary = e in cc
 

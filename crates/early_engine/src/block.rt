@@ -1,5 +1,5 @@
 // The edges of a block, read from the file of an iteration's kind.
-ghost use Rattle.std.specs.Prelude.{◌≡◌, ◌≤◌, ◌<◌, ◌*◌, ℕ, List, All, Err, length, IfErr, IsSome, OnOk};
+ghost use Rattle.std.specs.Prelude.{◌≡◌, ◌≤◌, ◌<◌, ◌+◌, ◌*◌, ℕ, List, All, Err, length, IfErr, IsSome, OnOk};
 ghost use Rattle.lumos_base.specs.declared.records.Edge.{Edge};
 ghost use Rattle.lumos_depot.specs.Causes.{Rose};
 ghost use Rattle.partition.specs.Blocks.{block};
@@ -56,6 +56,7 @@ pub(crate) fn load_block<D: Depot>(
     ensures intact { (edges : List Edge) → IsOnGrid edges layout.now.parts layout.now.table (D.holds depot.old) → IfErr result IsIntact }
     ensures damaged { IfErr result (IsOfBlock kind layout.now.parts layout.now.table i j) }
     ensures taken { OnOk result (RoseBy (D.taken depot.old (file_of kind)) (D.taken depot.new (file_of kind)) (12 * length places.old)) }
+    ensures most { D.taken depot.new (file_of kind) ≤ D.taken depot.old (file_of kind) + 12 * length places.old }
     ensures reads { Reads D.holds D.taken D.stored D.faults D.attached (file_of kind) depot.old depot.new }
     ensures cause { result ≡ Err FileFault.Depot → Rose (D.faults depot.old) (D.faults depot.new) }
 {

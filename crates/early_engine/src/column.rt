@@ -1,5 +1,5 @@
 // The blocks of a column, one after another.
-ghost use Rattle.std.specs.Prelude.{◌≡◌, ◌≤◌, ◌<◌, ◌+◌, ◌++◌, ◌∷◌, [], ℕ, Bool, suc, false, true, min, List, Err, length, IfErr, IsSome, OnOk};
+ghost use Rattle.std.specs.Prelude.{◌≡◌, ◌≤◌, ◌<◌, ◌+◌, ◌-◌, ◌*◌, ◌++◌, ◌∷◌, [], ℕ, Bool, suc, false, true, min, List, Err, length, IfErr, IsSome, OnOk};
 ghost use Rattle.lumos_base.specs.declared.records.Edge.{Edge};
 ghost use Rattle.lumos_law.specs.Sync.{values, IsChunk};
 ghost use Rattle.lumos_depot.specs.Causes.{Rose};
@@ -7,6 +7,7 @@ ghost use Rattle.lumos_depot.specs.declared.depot.FileKind.{FileKind};
 ghost use Rattle.lumos_report.specs.declared.records.Kind.{Kind};
 ghost use Rattle.partition.specs.Parts.{chunk_of, part_length};
 ghost use Rattle.lumos_depot.specs.Steps.{Reads};
+ghost use Rattle.grid_format.specs.Tables.{count_at, edges_in_rows};
 ghost use Rattle.early_engine.specs.Gone.{AreOf, HasGone};
 ghost use Rattle.early_engine.specs.Grids.{HasBlocks, IsIntact, IsLaid, IsOfBlock, IsOfPass, IsOnGrid};
 ghost use Rattle.early_engine.specs.Passes.{Place, place_at, places};
@@ -64,6 +65,7 @@ fn feed_both<G: VertexProgram, D: Depot>(
         → OnOk result (HasGone Kind.Full size need (bs ++ place_at i j ∷ []) begun (D.taken depot.new FileKind.Primary) counts.new) }
     ensures intact { (edges : List Edge) → IsOnGrid edges layout.now.parts layout.now.table (D.holds depot.old) → IfErr result IsIntact }
     ensures damaged { IfErr result (IsOfBlock Kind.Full layout.now.parts layout.now.table i j) }
+    ensures most { D.taken depot.new FileKind.Primary ≤ D.taken depot.old FileKind.Primary + 12 * count_at layout.now.table i j }
     ensures reads { Reads D.holds D.taken D.stored D.faults D.attached FileKind.Primary depot.old depot.new }
     ensures cause { result ≡ Err FileFault.Depot → Rose (D.faults depot.old) (D.faults depot.new) }
 {
@@ -134,6 +136,7 @@ pub(crate) fn feed_full<G: VertexProgram, D: Depot>(
         → OnOk result (HasGone Kind.Full size need (bs ++ places Kind.Full layout.now.parts.parts j) begun (D.taken depot.new FileKind.Primary) counts.new) }
     ensures intact { (edges : List Edge) → IsOnGrid edges layout.now.parts layout.now.table (D.holds depot.old) → IfErr result IsIntact }
     ensures damaged { IfErr result (IsOfPass Kind.Full layout.now.parts layout.now.table) }
+    ensures most { D.taken depot.new FileKind.Primary ≤ D.taken depot.old FileKind.Primary + 12 * edges_in_rows layout.now.table j 0 layout.now.parts.parts }
     ensures reads { Reads D.holds D.taken D.stored D.faults D.attached FileKind.Primary depot.old depot.new }
     ensures cause { result ≡ Err FileFault.Depot → Rose (D.faults depot.old) (D.faults depot.new) }
 {
@@ -183,6 +186,7 @@ pub(crate) fn feed_rest<G: VertexProgram, D: Depot>(
         → OnOk result (HasGone Kind.Fed size need (bs ++ places Kind.Fed layout.now.parts.parts j) begun (D.taken depot.new FileKind.Secondary) counts.new) }
     ensures intact { (edges : List Edge) → IsOnGrid edges layout.now.parts layout.now.table (D.holds depot.old) → IfErr result IsIntact }
     ensures damaged { IfErr result (IsOfPass Kind.Fed layout.now.parts layout.now.table) }
+    ensures most { D.taken depot.new FileKind.Secondary ≤ D.taken depot.old FileKind.Secondary + 12 * edges_in_rows layout.now.table j j (layout.now.parts.parts - j) }
     ensures reads { Reads D.holds D.taken D.stored D.faults D.attached FileKind.Secondary depot.old depot.new }
     ensures cause { result ≡ Err FileFault.Depot → Rose (D.faults depot.old) (D.faults depot.new) }
 {

@@ -4,6 +4,7 @@ ghost use Rattle.lumos_base.specs.declared.records.Edge.{Edge};
 ghost use Rattle.lumos_depot.specs.Causes.{Rose};
 ghost use Rattle.lumos_depot.specs.declared.depot.FileKind.{FileKind};
 ghost use Rattle.lumos_law.specs.Sync.{ending};
+ghost use Rattle.lumos_report.specs.declared.records.Kind.{Kind};
 ghost use Rattle.partition.specs.Parts.{chunk_of};
 ghost use Rattle.grid_format.specs.Checks.{GridFiles, head_of};
 ghost use Rattle.grid_format.specs.Grid.{HasGrid, grid};
@@ -14,12 +15,12 @@ ghost use Rattle.lumos_base.specs.Records.{IsEdge};
 ghost use Rattle.early_engine.specs.Core.{IsCoreState};
 ghost use Rattle.early_engine.specs.Engines.{IsOpened, IsSameRun, IsStanding, cut_in};
 ghost use Rattle.early_engine.specs.Gone.{HasPassed};
-ghost use Rattle.early_engine.specs.Grids.{HasBlocks};
+ghost use Rattle.early_engine.specs.Grids.{HasBlocks, bytes_in};
 ghost use Rattle.early_engine.specs.Opens.{OpenShows};
 ghost use Rattle.early_engine.specs.Passes.{file_of, kind_of, primary_bytes, primary_taken, secondary_bytes, secondary_taken};
 ghost use Rattle.early_engine.specs.Report.{report};
 ghost use Rattle.early_engine.specs.Reported.{IsOpening, IsReport, TurnReports};
-ghost use Rattle.early_engine.specs.Runs.{RunComes, Streams};
+ghost use Rattle.early_engine.specs.Runs.{RunComes, Streams, most_taken};
 ghost use Rattle.early_engine.specs.Starts.{IsFromOutside, StartComes, phase_begun};
 ghost use Rattle.early_engine.specs.Turns.{RunShows, SomeShows, TurnComes, phase_after, phase_of};
 
@@ -247,7 +248,8 @@ impl<G: VertexProgram> Engine<G> {
     /// Over every depot, also one that tells nothing: where it answers Ok, each block of the iteration was read, skipped or
     /// empty, by the grid's numbers of edges and by the chunks that were hot before it and are hot after it; twelve bytes were
     /// taken for each edge of the blocks that were read; and what was written is the line of these counts, the values that
-    /// are kept then, and the last line exactly where the run ended. After a fault other than `Out` nothing was written.
+    /// are kept then, and the last line exactly where the run ended. After a fault other than `Out` nothing was written; and
+    /// after every answer at most twelve bytes were taken for each edge of the blocks that the iteration goes through.
     pub fn turn<D: Depot, O: Sink>(&mut self, depot: &mut D, out: &mut O) -> Result<Turn, RunFault>
         requires attached { IsSome (D.attached depot.old) }
         requires inside { HasBlocks self.old.table (D.holds depot.old) }
@@ -275,6 +277,8 @@ impl<G: VertexProgram> Engine<G> {
             → OnOk result (RoseBy (D.taken depot.old FileKind.Secondary) (D.taken depot.new FileKind.Secondary)
             (secondary_bytes (G.model self.old.program) edges self.old.info.vertices self.old.info.parts self.old.options.mode self.old.options.iterations (self.old.finished + 1))) }
         ensures shows { IfErr result (RunShows G.Value.is_in_range G.Sum.is_in_range (G.model self.old.program) self.old.options.mode (cut_in self.old.info) self.old.table (self.old.finished + 1)) }
+        ensures most { D.taken depot.new (file_of (kind_of self.old.options.mode (self.old.finished + 1)))
+            ≤ D.taken depot.old (file_of (kind_of self.old.options.mode (self.old.finished + 1))) + bytes_in (kind_of self.old.options.mode (self.old.finished + 1)) self.old.table }
         ensures reads { Reads D.holds D.taken D.stored D.faults D.attached (file_of (kind_of self.old.options.mode (self.old.finished + 1))) depot.old depot.new }
         ensures depot { result ≡ Err RunFault.Depot → Rose (D.faults depot.old) (D.faults depot.new) }
         ensures later { O.faults out.old ≤ O.faults out.new }
@@ -312,9 +316,12 @@ impl<G: VertexProgram> Engine<G> {
     /// where the run ends so; the report then ends after the last finished iteration. `Out` and `Depot` come only where the
     /// counts of faults of the sink and of the depot rose, and leave a front of the report. `Damaged` never comes over the
     /// files of a grid that are told; it carries a word of a block's records that names a vertex outside its part, and the
-    /// block is one that some iteration goes through, in the file of its kind. Over every depot, also one that tells nothing,
-    /// Ok says that a whole report stands on `out`: of each iteration up to the last the counts of all its blocks, and some
-    /// values, and the line of the ending that is answered. What is counted of Secondary stays where all iterations are full.
+    /// block is one that some iteration goes through, in the file of its kind.
+    ///
+    /// Over every depot, also one that tells nothing, Ok says that a whole report stands on `out`: of each iteration up to the
+    /// last the counts of all its blocks, and some values, and the line of the ending that is answered. What is counted of
+    /// Secondary stays where all iterations are full. After every answer at most twelve bytes were taken of each layout for
+    /// each edge of its blocks, in each iteration that reads it.
     pub fn run<D: Depot, O: Sink>(self, depot: &mut D, out: &mut O) -> Result<Ending, RunFault>
         requires attached { IsSome (D.attached depot.old) }
         requires info { IfSome (D.holds depot.old FileKind.Info) (λ file. 12 * self.info.vertices ≤ length file) }
@@ -334,6 +341,7 @@ impl<G: VertexProgram> Engine<G> {
             (secondary_taken (G.model self.program) edges self.info.vertices self.info.parts self.options.mode self.options.iterations end.iterations)) }
         ensures info_taken { OnOk result (RoseBy (D.taken depot.old FileKind.Info) (D.taken depot.new FileKind.Info) (12 * self.info.vertices)) }
         ensures shows { IfErr result (SomeShows G.Value.is_in_range G.Sum.is_in_range (G.model self.program) self.options.mode self.options.iterations (cut_in self.info) self.table) }
+        ensures most { (kind : Kind) → D.taken depot.new (file_of kind) ≤ D.taken depot.old (file_of kind) + most_taken kind self.options.mode self.table self.options.iterations }
         ensures streams { Streams D.holds D.taken D.stored D.faults D.attached self.options.mode self.options.iterations depot.old depot.new }
         ensures depot { result ≡ Err RunFault.Depot → Rose (D.faults depot.old) (D.faults depot.new) }
         ensures later { O.faults out.old ≤ O.faults out.new }

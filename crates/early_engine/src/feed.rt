@@ -1,5 +1,5 @@
 // The blocks of a grid, read and fed into the sums of a part.
-ghost use Rattle.std.specs.Prelude.{◌≡◌, ◌≤◌, ◌<◌, ◌+◌, ◌++◌, ◌∷◌, [], ℕ, Bool, true, min, List, All, Err, length, take, IfErr, IfOk, IsSome, OnOk};
+ghost use Rattle.std.specs.Prelude.{◌≡◌, ◌≤◌, ◌<◌, ◌+◌, ◌*◌, ◌++◌, ◌∷◌, [], ℕ, Bool, true, min, List, All, Err, length, take, IfErr, IfOk, IsSome, OnOk};
 ghost use Rattle.lumos_base.specs.declared.records.Edge.{Edge};
 ghost use Rattle.lumos_law.specs.Sync.{values, IsChunk};
 ghost use Rattle.lumos_depot.specs.Causes.{Rose};
@@ -130,6 +130,7 @@ pub(crate) fn feed_block<G: VertexProgram, D: Depot>(
         → OnOk result (HasGone kind size need (bs ++ place_at i j ∷ []) before (D.taken depot.new (file_of kind)) counts.new) }
     ensures intact { (edges : List Edge) → IsOnGrid edges layout.now.parts layout.now.table (D.holds depot.old) → IfErr result IsIntact }
     ensures damaged { IfErr result (IsOfBlock kind layout.now.parts layout.now.table i j) }
+    ensures most { D.taken depot.new (file_of kind) ≤ D.taken depot.old (file_of kind) + 12 * count_at layout.now.table i j }
     ensures reads { Reads D.holds D.taken D.stored D.faults D.attached (file_of kind) depot.old depot.new }
     ensures cause { result ≡ Err FileFault.Depot → Rose (D.faults depot.old) (D.faults depot.new) }
 {

@@ -9,7 +9,7 @@ ghost use Rattle.partition.specs.Parts.{chunk_of};
 ghost use Rattle.lumos_depot.specs.Steps.{Reads};
 ghost use Rattle.early_engine.specs.Early.{IsKept, early_sum};
 ghost use Rattle.early_engine.specs.Engines.{IsRoomy};
-ghost use Rattle.early_engine.specs.Grids.{HasBlocks, IsLaid, IsOnGrid};
+ghost use Rattle.early_engine.specs.Grids.{HasBlocks, IsLaid, IsOnGrid, bytes_in};
 ghost use Rattle.early_engine.specs.Gone.{AreOf, HasGone};
 ghost use Rattle.early_engine.specs.Making.{IsMade, IsUnmade, StopShows};
 ghost use Rattle.early_engine.specs.Passes.{Place, feeds_ahead, file_of, kind_of, passes};
@@ -71,6 +71,7 @@ fn full_iteration<G: VertexProgram, D: Depot>(
         → ((i j : ℕ) → i < layout.now.parts.parts → j < layout.now.parts.parts → AreOf layout.now.table active.old.was_hot active.new.is_hot ahead size need i j)
         → IfOk result (HasGone Kind.Full size need (passes Kind.Full layout.now.parts.parts) (D.taken depot.old FileKind.Primary) (D.taken depot.new FileKind.Primary)) }
     ensures stop { IfErr result (StopShows G.Value.is_in_range G.Sum.is_in_range (G.model program.now) Kind.Full layout.now.parts layout.now.table) }
+    ensures most { D.taken depot.new FileKind.Primary ≤ D.taken depot.old FileKind.Primary + bytes_in Kind.Full layout.now.table }
     ensures reads { Reads D.holds D.taken D.stored D.faults D.attached FileKind.Primary depot.old depot.new }
     ensures cause { result ≡ Err (Stop.File FileFault.Depot) → Rose (D.faults depot.old) (D.faults depot.new) }
 {
@@ -139,6 +140,7 @@ fn fed_iteration<G: VertexProgram, D: Depot>(
         → ((i j : ℕ) → i < layout.now.parts.parts → j < layout.now.parts.parts → AreOf layout.now.table active.old.was_hot are false size need i j)
         → IfOk result (HasGone Kind.Fed size need (passes Kind.Fed layout.now.parts.parts) (D.taken depot.old FileKind.Secondary) (D.taken depot.new FileKind.Secondary)) }
     ensures stop { IfErr result (StopShows G.Value.is_in_range G.Sum.is_in_range (G.model program.now) Kind.Fed layout.now.parts layout.now.table) }
+    ensures most { D.taken depot.new FileKind.Secondary ≤ D.taken depot.old FileKind.Secondary + bytes_in Kind.Fed layout.now.table }
     ensures reads { Reads D.holds D.taken D.stored D.faults D.attached FileKind.Secondary depot.old depot.new }
     ensures cause { result ≡ Err (Stop.File FileFault.Depot) → Rose (D.faults depot.old) (D.faults depot.new) }
 {
@@ -198,6 +200,7 @@ pub(crate) fn iterate<G: VertexProgram, D: Depot>(
         → IfOk result (HasGone (kind_of options.mode t) size need (passes (kind_of options.mode t) layout.now.parts.parts)
         (D.taken depot.old (file_of (kind_of options.mode t))) (D.taken depot.new (file_of (kind_of options.mode t)))) }
     ensures stop { IfErr result (StopShows G.Value.is_in_range G.Sum.is_in_range (G.model program.now) (kind_of options.mode t) layout.now.parts layout.now.table) }
+    ensures most { D.taken depot.new (file_of (kind_of options.mode t)) ≤ D.taken depot.old (file_of (kind_of options.mode t)) + bytes_in (kind_of options.mode t) layout.now.table }
     ensures reads { Reads D.holds D.taken D.stored D.faults D.attached (file_of (kind_of options.mode t)) depot.old depot.new }
     ensures cause { result ≡ Err (Stop.File FileFault.Depot) → Rose (D.faults depot.old) (D.faults depot.new) }
 {

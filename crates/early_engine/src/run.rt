@@ -1,17 +1,18 @@
 // The iterations of a run.
-ghost use Rattle.std.specs.Prelude.{◌≡◌, ◌≤◌, ◌<◌, ℕ, List, Err, IfErr, IfOk, IsSome};
+ghost use Rattle.std.specs.Prelude.{◌≡◌, ◌≤◌, ◌<◌, ◌+◌, ℕ, List, Err, IfErr, IfOk, IsSome};
 ghost use Rattle.lumos_base.specs.declared.records.Edge.{Edge};
 ghost use Rattle.lumos_depot.specs.Causes.{Rose};
 ghost use Rattle.lumos_depot.specs.declared.depot.FileKind.{FileKind};
 ghost use Rattle.lumos_law.specs.Sync.{ending};
 ghost use Rattle.lumos_depot.specs.Steps.{RoseBy};
+ghost use Rattle.lumos_report.specs.declared.records.Kind.{Kind};
 ghost use Rattle.early_engine.specs.Engines.{IsStanding, cut_in};
 ghost use Rattle.early_engine.specs.Gone.{IsTallied};
 ghost use Rattle.early_engine.specs.Grids.{HasBlocks};
-ghost use Rattle.early_engine.specs.Passes.{primary_taken, secondary_taken};
+ghost use Rattle.early_engine.specs.Passes.{file_of, primary_taken, secondary_taken};
 ghost use Rattle.early_engine.specs.Report.{later_lines};
 ghost use Rattle.early_engine.specs.Reported.{AreEnded};
-ghost use Rattle.early_engine.specs.Runs.{RunComes, Streams};
+ghost use Rattle.early_engine.specs.Runs.{RunComes, Streams, most_taken};
 ghost use Rattle.early_engine.specs.Turns.{SomeShows};
 ghost use Rattle.early_engine.specs.declared.options.Phase.{Phase};
 
@@ -48,6 +49,7 @@ pub(crate) fn run_turns<G: VertexProgram, D: Depot, O: Sink>(
         (secondary_taken (G.model engine.old.program) edges engine.old.info.vertices engine.old.info.parts engine.old.options.mode engine.old.options.iterations end.iterations)) }
     ensures infos { D.taken depot.new FileKind.Info ≡ D.taken depot.old FileKind.Info }
     ensures shows { IfErr result (SomeShows G.Value.is_in_range G.Sum.is_in_range (G.model engine.old.program) engine.old.options.mode engine.old.options.iterations (cut_in engine.old.info) engine.old.table) }
+    ensures most { (kind : Kind) → D.taken depot.new (file_of kind) ≤ D.taken depot.old (file_of kind) + most_taken kind engine.old.options.mode engine.old.table engine.old.options.iterations }
     ensures streams { Streams D.holds D.taken D.stored D.faults D.attached engine.old.options.mode engine.old.options.iterations depot.old depot.new }
     ensures depot { result ≡ Err RunFault.Depot → Rose (D.faults depot.old) (D.faults depot.new) }
     ensures later { O.faults out.old ≤ O.faults out.new }

@@ -7,7 +7,7 @@ ghost use Rattle.lumos_law.specs.Sync.{ending, ending_from};
 ghost use Rattle.lumos_depot.specs.Steps.{Reads, RoseBy};
 ghost use Rattle.early_engine.specs.Early.{IsKept};
 ghost use Rattle.early_engine.specs.Engines.{IsRoomy};
-ghost use Rattle.early_engine.specs.Grids.{HasBlocks, IsOnGrid};
+ghost use Rattle.early_engine.specs.Grids.{HasBlocks, IsOnGrid, bytes_in};
 ghost use Rattle.early_engine.specs.Gone.{AreOf, HasGone, HasPassed};
 ghost use Rattle.early_engine.specs.Making.{IsMade, IsUnmade, StopShows};
 ghost use Rattle.early_engine.specs.Passes.{Place, feeds_ahead, file_of, kind_of, passes, primary_bytes, secondary_bytes};
@@ -50,6 +50,7 @@ fn advance<G: VertexProgram, D: Depot>(
         → IfOk result (HasGone (kind_of options.mode t) size need (passes (kind_of options.mode t) layout.now.parts.parts)
         (D.taken depot.old (file_of (kind_of options.mode t))) (D.taken depot.new (file_of (kind_of options.mode t)))) }
     ensures stop { IfErr result (StopShows G.Value.is_in_range G.Sum.is_in_range (G.model program.now) (kind_of options.mode t) layout.now.parts layout.now.table) }
+    ensures most { D.taken depot.new (file_of (kind_of options.mode t)) ≤ D.taken depot.old (file_of (kind_of options.mode t)) + bytes_in (kind_of options.mode t) layout.now.table }
     ensures reads { Reads D.holds D.taken D.stored D.faults D.attached (file_of (kind_of options.mode t)) depot.old depot.new }
     ensures cause { result ≡ Err (Stop.File FileFault.Depot) → Rose (D.faults depot.old) (D.faults depot.new) }
 {
@@ -115,6 +116,7 @@ pub(crate) fn make_turn<G: VertexProgram, D: Depot, O: Sink>(
         → OnOk result (RoseBy (D.taken depot.old FileKind.Secondary) (D.taken depot.new FileKind.Secondary)
         (secondary_bytes (G.model program.now) edges layout.now.parts.vertices layout.now.parts.parts options.mode options.iterations t)) }
     ensures shows { IfErr result (RunShows G.Value.is_in_range G.Sum.is_in_range (G.model program.now) options.mode layout.now.parts layout.now.table t) }
+    ensures most { D.taken depot.new (file_of (kind_of options.mode t)) ≤ D.taken depot.old (file_of (kind_of options.mode t)) + bytes_in (kind_of options.mode t) layout.now.table }
     ensures reads { Reads D.holds D.taken D.stored D.faults D.attached (file_of (kind_of options.mode t)) depot.old depot.new }
     ensures depot { result ≡ Err RunFault.Depot → Rose (D.faults depot.old) (D.faults depot.new) }
     ensures later { O.faults out.old ≤ O.faults out.new }

@@ -3,6 +3,8 @@ use Rattle.lumos_depot.specs.declared.depot.FileKind.TheVariants.{Primary}
 use Rattle.lumos_law.specs.Sync.{values}
 use Rattle.lumos_report.specs.declared.records.Kind.TheVariants.{Full}
 use Rattle.partition.specs.Parts.{chunk_of, first_vertex}
+use Rattle.grid_format.specs.Tables.{count_at, edges_in_rows}
+use Rattle.grid_format.proofs.RangeLemmas.{sum-range-le, sum-range-more}
 use Rattle.early_engine.specs.Passes.{place_at}
 use Rattle.early_engine.proofs.FeedLemmas.{fed_as, fed_none}
 use Rattle.early_engine.proofs.GridLemmas.{blocks_same, on_grid_same}
@@ -23,6 +25,7 @@ loop-i-init g c =
       moved = refl;
       fed = λ edges t grid ready. fed_none p edges cut j 0 (values p edges t) g.G.Sum.Combine.unit c.clear_sums.new.sums refl unit_is (c.clear_sums.ensures first);
       ahead = λ edges t grid ready on. fed_none p edges cut j (min 0 j) (values p edges (suc t)) g.G.Sum.Combine.unit c.clear_early.new.early (omega arith) unit_is (c.clear_early.ensures on first);
+      most = omega arith;
       gone = λ size need bs begun are gone. gone_as size need Full bs (bs ++ []) begun _ c.args.counts.now (sym (append-nil bs)) gone;
     }
 
@@ -52,6 +55,7 @@ loop-i-preserved g c =
           next.fed edges t (on_grid_same edges cut table _ _ kept.reads.contents grid) ready (kept.fed edges t grid ready);
       ahead = λ edges t grid ready on.
           next.ahead edges t (on_grid_same edges cut table _ _ kept.reads.contents grid) ready on (kept.ahead edges t grid ready on);
+      most = let more = sum-range-more (λ k. count_at table k j) 0 i i (omega arith) in omega (arith, more, next.most, kept.most);
       gone = λ size need bs begun are gone.
           gone_as size need Full ((bs ++ rows_from 0 i j) ++ place_at i j ∷ []) (bs ++ rows_from 0 (i + 1) j) begun _ c.feed_both.new.counts
           (append_assoc bs (rows_from 0 i j) (place_at i j ∷ []) ∙ ap (λ l. bs ++ l) (sym (rows_more 0 i i j at)))
@@ -84,3 +88,17 @@ pub returns-in-Err-clause-damaged : goal.returns-in-Err-clause-damaged
 returns-in-Err-clause-damaged g c =
     let row : c.loop-i.i < c.args.layout.now.parts.parts = omega (arith, c.loop-i.auto.i-end, c.loop-i-test.true, c.parts-i-end.ensures.value) in
     record { row = c.loop-i.i; column = c.args.j; row_in = row; column_in = c.requires.column; through = tt; shown = c.in-Err.ensures.damaged }
+
+pub returns-clause-most : goal.returns-clause-most
+returns-clause-most g c =
+    let all : c.loop-i.i ≡ c.args.layout.now.parts.parts = omega (arith, c.loop-i.auto.i-end, c.loop-i-test.false, c.parts-i-end.ensures.value) in
+    omega (arith, c.loop-i.invariant.most, ap (λ (n : ℕ). edges_in_rows c.args.layout.now.table c.args.j 0 n) all)
+
+pub returns-in-Err-clause-most : goal.returns-in-Err-clause-most
+returns-in-Err-clause-most g c =
+    let i = c.loop-i.i in
+    let row : i < c.args.layout.now.parts.parts = omega (arith, c.loop-i.auto.i-end, c.loop-i-test.true, c.parts-i-end.ensures.value) in
+    let f : ℕ → ℕ = λ k. count_at c.args.layout.now.table k c.args.j in
+    let more = sum-range-more f 0 i i (omega arith) in
+    let rest = sum-range-le f 0 (i + 1) c.args.layout.now.parts.parts (omega (arith, row)) in
+    omega (arith, more, rest, c.in-Err.ensures.most, c.loop-i.invariant.most)

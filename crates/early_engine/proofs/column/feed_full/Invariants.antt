@@ -1,9 +1,10 @@
-use Rattle.std.proofs.Common.{◌≡◌, ◌<◌, ◌≤◌, ◌+◌, ◌++◌, min, suc, Bool, true, ℕ, List}
+use Rattle.std.proofs.Common.{◌≡◌, ◌<◌, ◌≤◌, ◌+◌, ◌*◌, ◌++◌, min, suc, Bool, true, ℕ, List}
 use Rattle.lumos_base.specs.declared.records.Edge.{Edge}
 use Rattle.lumos_depot.specs.declared.depot.FileKind.TheVariants.{Primary}
 use Rattle.lumos_law.specs.Sync.{values}
 use Rattle.lumos_report.specs.declared.records.Kind.TheVariants.{Full}
 use Rattle.lumos_depot.specs.Steps.{Reads}
+use Rattle.grid_format.specs.Tables.{edges_in_rows}
 use Rattle.early_engine.specs.Gone.{AreOf, HasGone}
 use Rattle.early_engine.specs.Grids.{IsOnGrid}
 use Rattle.early_engine.specs.Passes.{Place}
@@ -23,6 +24,7 @@ invariant-loop-i g l =
           → IsFedTo p edges cut l.j l.i (values p edges t) l.sums;
       ahead : (edges : List Edge) (t : ℕ) → IsOnGrid edges cut l.layout.table (g.D.Depot.holds l.fn.depot) → IsReady p edges cut l.j t l.before l.after l.active.was_hot l.active.is_hot
           → l.ahead ≡ true → IsFedTo p edges cut l.j (min l.i l.j) (values p edges (suc t)) l.early;
+      most : g.D.Depot.taken l.depot Primary ≤ g.D.Depot.taken l.fn.depot Primary + 12 * edges_in_rows l.layout.table l.j 0 l.i;
       gone : (size : Place → ℕ) (need : Place → Bool) (bs : List Place) (begun : ℕ) → ((i : ℕ) → i < cut.parts → AreOf l.layout.table l.active.was_hot l.active.is_hot l.ahead size need i l.j)
           → HasGone Full size need bs begun (g.D.Depot.taken l.fn.depot Primary) l.fn.counts → HasGone Full size need (bs ++ rows_from 0 l.i l.j) begun (g.D.Depot.taken l.depot Primary) l.counts;
     }

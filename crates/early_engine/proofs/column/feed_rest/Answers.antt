@@ -3,6 +3,8 @@ use Rattle.lumos_depot.specs.declared.depot.FileKind.TheVariants.{Secondary}
 use Rattle.active_sets.specs.Active.{hot_at}
 use Rattle.lumos_law.specs.Sync.{values}
 use Rattle.lumos_report.specs.declared.records.Kind.TheVariants.{Fed}
+use Rattle.grid_format.specs.Tables.{count_at, edges_in_rows}
+use Rattle.grid_format.proofs.RangeLemmas.{sum-range-le, sum-range-more}
 use Rattle.early_engine.specs.Passes.{place_at}
 use Rattle.early_engine.proofs.FeedLemmas.{fed_as}
 use Rattle.early_engine.proofs.GridLemmas.{blocks_same, on_grid_same}
@@ -23,6 +25,7 @@ loop-i-init g c =
       from = omega arith;
       moved = refl;
       fed = λ edges t grid holds hot sums. sums;
+      most = omega arith;
       gone = λ are size need bs begun is gone. gone_as size need Fed bs (bs ++ rows_from j (j - j) j) begun _ c.args.counts.now (sym (ap (λ (n : ℕ). bs ++ rows_from j n j) none ∙ append-nil bs)) gone;
     }
 
@@ -54,6 +57,10 @@ loop-i-preserved g c =
       moved = next.moved ∙ kept.moved;
       fed = λ edges t grid holds hot sums.
           next.fed edges t (on_grid_same edges cut table _ _ kept.reads.contents grid) (c.needed_fed-hot.ensures ∙ hot i row) holds (kept.fed edges t grid holds hot sums);
+      most =
+          let row_count : ℕ → ℕ = λ k. count_at table k j in
+          let next_row = sum-range-more row_count j (i - j) i (omega (arith, from)) in
+          omega (arith, next_row, ap (λ (n : ℕ). edges_in_rows table j j n) grown, next.most, kept.most);
       gone = λ are size need bs begun is gone.
           let of = is i row in
           let needed = need_alone c.needed_fed-hot.result (hot_at c.args.active.now.was_hot i) c.needed_fed-hot.ensures ∙ of.need_is in
@@ -82,3 +89,21 @@ pub returns-in-Err-clause-damaged : goal.returns-in-Err-clause-damaged
 returns-in-Err-clause-damaged g c =
     let row : c.loop-i.i < c.args.layout.now.parts.parts = omega (arith, c.loop-i.auto.i-end, c.loop-i-test.true, c.parts-i-end.ensures.value) in
     record { row = c.loop-i.i; column = c.args.j; row_in = row; column_in = c.requires.column; through = c.loop-i.invariant.from; shown = c.in-Err.ensures.damaged }
+
+pub returns-clause-most : goal.returns-clause-most
+returns-clause-most g c =
+    let j = c.args.j in
+    let inside : j < c.args.layout.now.parts.parts = c.requires.column in
+    let all : c.loop-i.i ≡ c.args.layout.now.parts.parts = omega (arith, inside, c.loop-i.auto.i-end, c.loop-i-test.false, c.parts-i-end.ensures.value) in
+    omega (arith, c.loop-i.invariant.most, ap (λ (n : ℕ). edges_in_rows c.args.layout.now.table j j (n - j)) all)
+
+pub returns-in-Err-clause-most : goal.returns-in-Err-clause-most
+returns-in-Err-clause-most g c =
+    let i = c.loop-i.i in
+    let j = c.args.j in
+    let row : i < c.args.layout.now.parts.parts = omega (arith, c.loop-i.auto.i-end, c.loop-i-test.true, c.parts-i-end.ensures.value) in
+    let from : j ≤ i = c.loop-i.invariant.from in
+    let row_count : ℕ → ℕ = λ k. count_at c.args.layout.now.table k j in
+    let more = sum-range-more row_count j (i - j) i (omega (arith, from)) in
+    let rest = sum-range-le row_count j (i - j + 1) (c.args.layout.now.parts.parts - j) (omega (arith, row, from)) in
+    omega (arith, more, rest, c.in-Err.ensures.most, c.loop-i.invariant.most)

@@ -1,9 +1,10 @@
-use Rattle.std.proofs.Common.{◌≡◌, ◌<◌, ◌≤◌, ◌+◌, ◌-◌, ◌++◌, Bool, false, ℕ, List}
+use Rattle.std.proofs.Common.{◌≡◌, ◌<◌, ◌≤◌, ◌+◌, ◌-◌, ◌*◌, ◌++◌, Bool, false, ℕ, List}
 use Rattle.lumos_base.specs.declared.records.Edge.{Edge}
 use Rattle.lumos_depot.specs.declared.depot.FileKind.TheVariants.{Secondary}
 use Rattle.lumos_law.specs.Sync.{values, IsChunk}
 use Rattle.lumos_report.specs.declared.records.Kind.TheVariants.{Fed}
 use Rattle.lumos_depot.specs.Steps.{Reads}
+use Rattle.grid_format.specs.Tables.{edges_in_rows}
 use Rattle.early_engine.specs.Gone.{AreOf, HasGone}
 use Rattle.early_engine.specs.Grids.{IsOnGrid}
 use Rattle.early_engine.specs.Passes.{Place}
@@ -22,6 +23,7 @@ invariant-loop-i g l =
       moved : l.counts.moved ≡ l.fn.counts.moved;
       fed : (edges : List Edge) (t : ℕ) → IsOnGrid edges cut l.layout.table (g.D.Depot.holds l.fn.depot) → IsChunk (values p edges t) 0 l.before → AreHot p edges cut cut.parts t l.active.was_hot
           → IsFedTo p edges cut l.j l.j (values p edges t) l.fn.sums → IsFedTo p edges cut l.j l.i (values p edges t) l.sums;
+      most : g.D.Depot.taken l.depot Secondary ≤ g.D.Depot.taken l.fn.depot Secondary + 12 * edges_in_rows l.layout.table l.j l.j (l.i - l.j);
       gone : (are : List Bool) (size : Place → ℕ) (need : Place → Bool) (bs : List Place) (begun : ℕ) → ((i : ℕ) → i < cut.parts → AreOf l.layout.table l.active.was_hot are false size need i l.j)
           → HasGone Fed size need bs begun (g.D.Depot.taken l.fn.depot Secondary) l.fn.counts → HasGone Fed size need (bs ++ rows_from l.j (l.i - l.j) l.j) begun (g.D.Depot.taken l.depot Secondary) l.counts;
     }

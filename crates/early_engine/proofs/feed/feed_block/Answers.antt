@@ -63,3 +63,17 @@ returns-clause-gone g c size need bs begun sized needed gone =
     let same : length (take count c.args.room.now) ≡ size (place_at c.args.i c.args.j) = omega (arith, whole, sized, c.count-count.ensures) in
     gone_read size need c.args.kind bs (place_at c.args.i c.args.j) begun _ _ c.args.counts.now c.count_read.new.counts (omega (arith, sized, c.count-count.ensures, c.if-count-eq0.false)) (sym needed ∙ c.if-not-needed.false)
     c.count_read.ensures.value c.count_read.ensures.moved (subst (λ (n : ℕ). RoseBy (g.D.Depot.taken c.args.depot.now (file_of c.args.kind)) (g.D.Depot.taken c.load_block.new.depot (file_of c.args.kind)) (12 * n)) same c.in-Ok.ensures.taken) gone
+
+pub returns-in-Err-clause-most : goal.returns-in-Err-clause-most
+returns-in-Err-clause-most g c =
+    let count = c.count-count.result in
+    let longest = c.requires.laid.longest c.args.i c.args.j c.requires.row c.requires.column in
+    let whole : length (take count c.args.room.now) ≡ count = simp length-take (omega (arith, longest, c.count-count.ensures)) in
+    omega (arith, whole, c.count-count.ensures, c.load_block.ensures.most)
+
+pub returns-clause-most : goal.returns-clause-most
+returns-clause-most g c =
+    let count = c.count-count.result in
+    let longest = c.requires.laid.longest c.args.i c.args.j c.requires.row c.requires.column in
+    let whole : length (take count c.args.room.now) ≡ count = simp length-take (omega (arith, longest, c.count-count.ensures)) in
+    omega (arith, whole, c.count-count.ensures, c.load_block.ensures.most)

@@ -20,6 +20,8 @@ use Rattle.early_engine.proofs.HotLemmas.{hot_still}
 use Rattle.early_engine.proofs.MadeLemmas.{column_chunk, made_all, made_none}
 use Rattle.lumos_depot.proofs.StepLemmas.{reads_none, reads_then}
 use Rattle.early_engine.proofs.PassLemmas.{below_more, gone_as, gone_moved, gone_none}
+use Rattle.grid_format.specs.Tables.{edges_in_rows, low_edges}
+use Rattle.grid_format.proofs.TableLemmas.{low_column_few, low_more}
 use Rattle.early_engine.proofs.iteration.fed_iteration.Goals as goal
 
 pub loop-j-init : goal.loop-j-init
@@ -36,6 +38,7 @@ loop-j-init g c =
       made = λ edges t grid holds hot sums. made_none p edges cut t c.args.after.now c.zero-counts.result.moved none;
       hot = λ edges t grid holds hot sums i below. absurd (omega arith);
       rest = λ k low. refl;
+      most = omega arith;
       gone = λ are size need is. gone_none size need Fed (g.D.Depot.taken c.args.depot.now Secondary) c.zero-counts.result c.zero-counts.ensures;
     }
 
@@ -110,6 +113,10 @@ loop-j-preserved g c =
       rest = λ k low.
           drop-put_mid first (past - first) c.loop-j.early c.feed_rest.new.sums k (omega (arith, past_is, low, ordered)) (omega (arith, early_long, ordered, inside)) (sums_long ∙ omega (arith, first_is, past_is))
           ∙ kept.rest k (omega (arith, first_is, past_is, ordered, low));
+      most =
+          let more = low_more table j in
+          let fits = ap (λ (n : ℕ). edges_in_rows table j j (n - j)) c.requires.laid.parts in
+          omega (arith, more, fits, next.most, kept.most);
       gone = λ are size need is.
           let here : (i : ℕ) → i < cut.parts → AreOf table c.loop-j.active.was_hot are false size need i j = λ i within. subst (λ (w : List Bool). AreOf table w are false size need i j) (sym kept.was_hot) (is i j within (omega arith)) in
           gone_moved size need Fed (places_below Fed cut.parts (j + 1)) _ _ c.in-Ok-make_part.end.moved c.feed_rest.new.counts c.add_moved.new.self added
@@ -161,3 +168,27 @@ returns-clause-gone g c are size need is =
     let all : c.loop-j.j ≡ cut.parts = omega (arith, c.loop-j.auto.j-end, c.loop-j-test.false, c.parts-j-end.ensures.value) in
     gone_as size need Fed (places_below Fed cut.parts c.loop-j.j) (passes Fed cut.parts) _ _ c.loop-j.counts (ap (λ (k : ℕ). places_below Fed cut.parts k) all)
     (c.loop-j.invariant.gone are size need (λ i k row low. is i k row (omega (arith, low, all))))
+
+pub returns-in-Err-clause-most : goal.returns-in-Err-clause-most
+returns-in-Err-clause-most g c =
+    let table = c.args.layout.now.table in
+    let j = c.loop-j.j in
+    let column : j < table.parts = omega (arith, c.loop-j.auto.j-end, c.loop-j-test.true, c.parts-j-end.ensures.value, c.requires.laid.parts) in
+    let few = low_column_few table j column in
+    let fits = ap (λ (n : ℕ). edges_in_rows table j j (n - j)) c.requires.laid.parts in
+    omega (arith, few, fits, c.in-Err.ensures.most, c.loop-j.invariant.most)
+
+pub returns-in-Err-make_part-clause-most : goal.returns-in-Err-make_part-clause-most
+returns-in-Err-make_part-clause-most g c =
+    let table = c.args.layout.now.table in
+    let j = c.loop-j.j in
+    let column : j < table.parts = omega (arith, c.loop-j.auto.j-end, c.loop-j-test.true, c.parts-j-end.ensures.value, c.requires.laid.parts) in
+    let few = low_column_few table j column in
+    let fits = ap (λ (n : ℕ). edges_in_rows table j j (n - j)) c.requires.laid.parts in
+    omega (arith, few, fits, c.in-Ok.ensures.most, c.loop-j.invariant.most)
+
+pub returns-clause-most : goal.returns-clause-most
+returns-clause-most g c =
+    let table = c.args.layout.now.table in
+    let all : c.loop-j.j ≡ table.parts = omega (arith, c.loop-j.auto.j-end, c.loop-j-test.false, c.parts-j-end.ensures.value, c.requires.laid.parts) in
+    omega (arith, c.loop-j.invariant.most, ap (low_edges table) all)

@@ -18,6 +18,7 @@ use Rattle.early_engine.proofs.HotLemmas.{of_before, ready_at}
 use Rattle.early_engine.proofs.MadeLemmas.{all_parts, chunk_put, column_chunk, made_all, made_none}
 use Rattle.lumos_depot.proofs.StepLemmas.{reads_none, reads_then}
 use Rattle.early_engine.proofs.PassLemmas.{below_more, gone_as, gone_moved, gone_none}
+use Rattle.early_engine.proofs.MostLemmas.{columns_few, columns_next}
 use Rattle.early_engine.proofs.iteration.full_iteration.Goals as goal
 
 pub loop-j-init : goal.loop-j-init
@@ -35,6 +36,7 @@ loop-j-init g c =
       made = λ edges t grid holds hot. made_none p edges cut t c.args.after.now c.zero-counts.result.moved none;
       hot = λ edges t grid holds hot i below. absurd (omega arith);
       early = λ edges t grid holds hot on. subst (λ (k : ℕ). IsChunk (early_sum p edges (chunk_of cut) (values p edges (suc t))) 0 (take k c.args.early.now)) (sym first) (record { at = λ d k below. absurd (omega arith) });
+      most = omega arith;
       gone = λ size need are. gone_none size need Full (g.D.Depot.taken c.args.depot.now Primary) c.zero-counts.result c.zero-counts.ensures;
     }
 
@@ -110,6 +112,7 @@ loop-j-preserved g c =
           let part = early_made p edges cut j (values p edges (suc t)) c.feed_full.new.early grid.limits.some_parts early_long fed in
           chunk_put (early_sum p edges (chunk_of cut) (values p edges (suc t))) c.loop-j.early c.feed_full.new.early first (past - first) (first_vertex n (chunk_of cut) j) (first_vertex n (chunk_of cut) (j + 1)) first_is
           (omega (arith, early_long, first_is, past_is, ordered)) (omega (arith, c.loop-j.auto.early, c.requires.early_fits, ordered, inside)) (kept.early edges t grid holds hot on) part;
+      most = let more = columns_next table j cut.parts c.requires.laid.parts in omega (arith, more, next.most, kept.most);
       gone = λ size need are.
           let flags = c.loop-j.active.is_hot in
           let same = ap (λ (s : ActiveState). s.is_hot) c.mark.ensures.set in
@@ -157,3 +160,22 @@ returns-clause-gone g c size need are =
     let all : c.loop-j.j ≡ cut.parts = omega (arith, c.loop-j.auto.j-end, c.loop-j-test.false, c.parts-j-end.ensures.value) in
     gone_as size need Full (places_below Full cut.parts c.loop-j.j) (passes Full cut.parts) _ _ c.loop-j.counts (ap (λ (k : ℕ). places_below Full cut.parts k) all)
     (c.loop-j.invariant.gone size need (λ i k row low. are i k row (omega (arith, low, all))))
+
+pub returns-clause-most : goal.returns-clause-most
+returns-clause-most g c =
+    let few = columns_few c.args.layout.now.table c.loop-j.j in
+    omega (arith, few, c.loop-j.invariant.most)
+
+pub returns-in-Err-clause-most : goal.returns-in-Err-clause-most
+returns-in-Err-clause-most g c =
+    let table = c.args.layout.now.table in
+    let more = columns_next table c.loop-j.j c.args.layout.now.parts.parts c.requires.laid.parts in
+    let few = columns_few table (c.loop-j.j + 1) in
+    omega (arith, more, few, c.in-Err.ensures.most, c.loop-j.invariant.most)
+
+pub returns-in-Err-make_part-clause-most : goal.returns-in-Err-make_part-clause-most
+returns-in-Err-make_part-clause-most g c =
+    let table = c.args.layout.now.table in
+    let more = columns_next table c.loop-j.j c.args.layout.now.parts.parts c.requires.laid.parts in
+    let few = columns_few table (c.loop-j.j + 1) in
+    omega (arith, more, few, c.in-Ok.ensures.most, c.loop-j.invariant.most)

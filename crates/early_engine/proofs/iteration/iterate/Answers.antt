@@ -1,5 +1,5 @@
 use Rattle.std.specs.Prelude.{IfErr, IfOk}
-use Rattle.std.proofs.Common.{◌≡◌, ◌<◌, ℕ, suc, Bool, false, sym, ap, ◌∙◌, subst, add-one, arith}
+use Rattle.std.proofs.Common.{◌≡◌, ◌<◌, ◌≤◌, ◌+◌, ℕ, suc, Bool, false, sym, ap, ◌∙◌, subst, add-one, arith}
 use Rattle.std.proofs.lemmas.List.{take_at}
 use Rattle.lumos_law.specs.Sync.{values, IsChunk}
 use Rattle.lumos_report.specs.declared.records.Kind.{Kind}
@@ -8,6 +8,7 @@ use Rattle.partition.specs.Parts.{chunk_of}
 use Rattle.lumos_depot.specs.Steps.{Reads}
 use Rattle.early_engine.specs.Early.{early_sum}
 use Rattle.early_engine.specs.Gone.{AreOf, HasGone}
+use Rattle.early_engine.specs.Grids.{bytes_in}
 use Rattle.early_engine.specs.Making.{StopShows}
 use Rattle.early_engine.specs.Passes.{feeds_ahead, file_of, kind_of, passes}
 use Rattle.early_engine.proofs.KindLemmas.{fed_before, fed_not_ahead}
@@ -88,3 +89,13 @@ pub returns-in-Fed-clause-stop : goal.returns-in-Fed-clause-stop
 returns-in-Fed-clause-stop g c =
     let is : Fed ≡ kind_of c.args.options.mode c.args.t = sym c.in-Fed.is ∙ c.kind_of.ensures in
     subst (λ (k : Kind). IfErr c.fed_iteration.result (StopShows g.G.Value.Fixed.is_in_range g.G.Sum.Fixed.is_in_range (g.G.VertexProgram.model c.args.program.now) k c.args.layout.now.parts c.args.layout.now.table)) is c.fed_iteration.ensures.stop
+
+pub returns-in-Full-clause-most : goal.returns-in-Full-clause-most
+returns-in-Full-clause-most g c =
+    let is : Full ≡ kind_of c.args.options.mode c.args.t = sym c.in-Full.is ∙ c.kind_of.ensures in
+    subst (λ (k : Kind). g.D.Depot.taken c.full_iteration.new.depot (file_of k) ≤ g.D.Depot.taken c.args.depot.now (file_of k) + bytes_in k c.args.layout.now.table) is c.full_iteration.ensures.most
+
+pub returns-in-Fed-clause-most : goal.returns-in-Fed-clause-most
+returns-in-Fed-clause-most g c =
+    let is : Fed ≡ kind_of c.args.options.mode c.args.t = sym c.in-Fed.is ∙ c.kind_of.ensures in
+    subst (λ (k : Kind). g.D.Depot.taken c.fed_iteration.new.depot (file_of k) ≤ g.D.Depot.taken c.args.depot.now (file_of k) + bytes_in k c.args.layout.now.table) is c.fed_iteration.ensures.most

@@ -1,13 +1,14 @@
-use Rattle.std.proofs.Common.{◌≡◌, ◌+◌, ℕ, suc, Ok, Err, sym, ap, ◌∙◌, subst, arith}
+use Rattle.std.proofs.Common.{◌≡◌, ◌≤◌, ◌+◌, ℕ, suc, Ok, Err, sym, ap, ◌∙◌, subst, arith}
 use Rattle.lumos_depot.specs.Streams.{after_told}
 use Rattle.lumos_depot.specs.declared.depot.FileKind.TheVariants.{Primary, Secondary}
 use Rattle.lumos_depot.specs.Steps.{RoseBy}
 use Rattle.early_engine.specs.Engines.{IsStanding, cut_in}
-use Rattle.early_engine.specs.Passes.{kind_of}
-use Rattle.early_engine.specs.Runs.{RunComes}
+use Rattle.early_engine.specs.Passes.{file_of, kind_of}
+use Rattle.early_engine.specs.Runs.{RunComes, most_taken}
 use Rattle.early_engine.specs.Turns.{HasTurned, phase_after}
 use Rattle.early_engine.specs.declared.options.RunOptions.{RunOptions}
 use Rattle.early_engine.specs.Gone.{IsTallied}
+use Rattle.early_engine.proofs.MostLemmas.{most_more}
 use Rattle.early_engine.proofs.Repeats.{texts}
 use Rattle.early_engine.proofs.ReportLemmas.{went_last, went_more}
 use Rattle.early_engine.proofs.RunLemmas.{end_of, ended_comes, going_text, key_of, later_of, lines_of, primary_at, same_key, same_run, secondary_at, stopped_comes, turn_shows, turn_tallied}
@@ -122,6 +123,10 @@ loop-turn-preserved g c =
       same = same;
       counted = next.finished ∙ ap (λ (k : ℕ). k + 1) kept.counted;
       left = omega (arith, low, ap (λ (o : RunOptions). o.iterations) same.options, c.requires.all);
+      most = λ kind.
+          subst (λ (n : ℕ). g.D.Depot.taken c.turn.new.depot (file_of kind) ≤ g.D.Depot.taken c.args.depot.now (file_of kind) + most_taken kind c.args.engine.now.options.mode c.args.engine.now.table n) (sym next.finished)
+          (most_more kind c.args.engine.now.options.mode c.loop-turn.engine.options.mode c.args.engine.now.table c.loop-turn.engine.table c.loop-turn.engine.finished c.args.engine.now.options.iterations
+          (g.D.Depot.taken c.args.depot.now) (g.D.Depot.taken c.loop-turn.depot) (g.D.Depot.taken c.turn.new.depot) (ap (λ (o : RunOptions). o.mode) kept.same.options) kept.same.table (omega (arith, kept.left, c.requires.all)) (kept.most kind) next.most next.reads.taken).0;
       reports =
           let k = key_of c.args.engine.now in
           let made = turn_tallied model c.args.engine.now w kept.same new.values new.active _ _ _ _ c.in-Ok-Going.field-0 next.reported in
@@ -147,3 +152,15 @@ loop-turn-preserved g c =
                 (subst (λ k. RoseBy (g.D.Depot.taken c.loop-turn.depot Secondary) (g.D.Depot.taken c.turn.new.depot Secondary) (secondary_at model edges k (w.finished + 1))) key (next.secondary edges here));
           };
     }
+
+pub returns-in-Ok-Ended-clause-most : goal.returns-in-Ok-Ended-clause-most
+returns-in-Ok-Ended-clause-most g c kind =
+    let kept = c.loop-turn.invariant in
+    (most_more kind c.args.engine.now.options.mode c.loop-turn.engine.options.mode c.args.engine.now.table c.loop-turn.engine.table c.loop-turn.engine.finished c.args.engine.now.options.iterations
+    (g.D.Depot.taken c.args.depot.now) (g.D.Depot.taken c.loop-turn.depot) (g.D.Depot.taken c.turn.new.depot) (ap (λ (o : RunOptions). o.mode) kept.same.options) kept.same.table (omega (arith, kept.left, c.requires.all)) (kept.most kind) c.in-Ok-Ended.ensures.most c.in-Ok-Ended.ensures.reads.taken).1
+
+pub returns-in-Err-clause-most : goal.returns-in-Err-clause-most
+returns-in-Err-clause-most g c kind =
+    let kept = c.loop-turn.invariant in
+    (most_more kind c.args.engine.now.options.mode c.loop-turn.engine.options.mode c.args.engine.now.table c.loop-turn.engine.table c.loop-turn.engine.finished c.args.engine.now.options.iterations
+    (g.D.Depot.taken c.args.depot.now) (g.D.Depot.taken c.loop-turn.depot) (g.D.Depot.taken c.turn.new.depot) (ap (λ (o : RunOptions). o.mode) kept.same.options) kept.same.table (omega (arith, kept.left, c.requires.all)) (kept.most kind) c.in-Err.ensures.most c.in-Err.ensures.reads.taken).1

@@ -1,9 +1,11 @@
-use Rattle.std.proofs.Common.{◌≡◌, ◌≤◌, ◌<◌, List}
+use Rattle.std.proofs.Common.{◌≡◌, ◌≤◌, ◌<◌, ◌+◌, List}
 use Rattle.lumos_base.specs.declared.records.Edge.{Edge}
 use Rattle.lumos_depot.specs.declared.depot.FileKind.TheVariants.{Info}
 use Rattle.early_engine.specs.Engines.{IsSameRun, IsStanding}
+use Rattle.lumos_report.specs.declared.records.Kind.{Kind}
+use Rattle.early_engine.specs.Passes.{file_of}
 use Rattle.early_engine.specs.Gone.{IsTallied}
-use Rattle.early_engine.specs.Runs.{Streams}
+use Rattle.early_engine.specs.Runs.{Streams, most_taken}
 use Rattle.early_engine.specs.declared.options.Phase.TheVariants.{Going}
 use Rattle.early_engine.proofs.ReportLemmas.{Went}
 use Rattle.early_engine.proofs.RunLemmas.{IsRunning, key_of}
@@ -18,6 +20,7 @@ invariant-loop-turn g l = record {
   same : IsSameRun l.fn.engine l.engine;
   counted : l.engine.finished ≡ l.turn;
   left : l.engine.finished < l.iterations;
+  most : (kind : Kind) → g.D.Depot.taken l.depot (file_of kind) ≤ g.D.Depot.taken l.fn.depot (file_of kind) + most_taken kind l.fn.engine.options.mode l.fn.engine.table l.engine.finished;
   reports : Went (g.G.VertexProgram.model l.fn.engine.program) l.fn.engine.options.show l.fn.engine.options.mode l.fn.engine.options.iterations l.fn.engine.info.vertices (IsTallied l.fn.engine.options.mode l.fn.engine.table) l.turn (g.O.Sink.written l.fn.out) (g.O.Sink.written l.out);
   running : (edges : List Edge) → IsStanding (g.G.VertexProgram.model l.fn.engine.program) edges (g.D.Depot.holds l.fn.depot) l.fn.engine
       → IsRunning g.G.VertexProgram.model edges (key_of l.fn.engine) l.engine (g.D.Depot.holds l.depot) (g.O.Sink.written l.fn.out) (g.O.Sink.written l.out)

@@ -1,17 +1,18 @@
-use Rattle.std.proofs.Common.{◌≡◌, ◌<◌, ℕ, refl, sym, subst}
+use Rattle.std.proofs.Common.{◌≡◌, ◌<◌, ◌≤◌, ◌+◌, ℕ, refl, sym, subst, arith}
 use Rattle.std.specs.Prelude.{IfErr, IfOk}
 use Rattle.lumos_depot.specs.declared.depot.FileKind.TheVariants.{Primary, Secondary}
 use Rattle.lumos_depot.specs.Steps.{RoseBy}
 use Rattle.early_engine.specs.Engines.{IsStanding, cut_in}
 use Rattle.early_engine.specs.Report.{first_lines}
 use Rattle.early_engine.specs.Gone.{IsTallied}
-use Rattle.early_engine.specs.Runs.{RunComes, Streams}
+use Rattle.early_engine.specs.Passes.{file_of}
+use Rattle.early_engine.specs.Runs.{RunComes, Streams, most_taken}
 use Rattle.early_engine.specs.Turns.{SomeShows}
 use Rattle.early_engine.specs.declared.options.RunOptions.{RunOptions}
 use Rattle.early_engine.specs.Reported.{AreEnded}
 use Rattle.early_engine.proofs.ReportLemmas.{report_if}
 use Rattle.early_engine.proofs.RunLemmas.{end_of, key_of, later_of, outside_shows, primary_in, run_stops, run_then, same_key, secondary_in}
-use Rattle.early_engine.proofs.TakenLemmas.{streams_infos, streams_then}
+use Rattle.early_engine.proofs.TakenLemmas.{infos_apart, streams_infos, streams_then}
 use Rattle.early_engine.proofs.engine.Engine.run.Goals as goal
 
 pub returns-in-Ok-clause-told : goal.returns-in-Ok-clause-told
@@ -97,3 +98,16 @@ returns-clause-told g c edges opened =
     let w = c.args.self in
     run_stops (model w.program) (g.G.VertexProgram.name_text w.program) w.options.show edges (cut_in w.info) c.begin.new.self.values (end_of model edges (key_of w)) (later_of model edges (key_of w))
     (g.O.Sink.written c.args.out.now) (g.O.Sink.written c.begin.new.out) c.in-Err.fault (c.in-Err.ensures.told edges opened)
+
+pub returns-in-Ok-clause-most : goal.returns-in-Ok-clause-most
+returns-in-Ok-clause-most g c kind =
+    let w = c.args.self in
+    let new = c.begin.new.self in
+    let rest = subst (λ k. g.D.Depot.taken c.run_turns.new.depot (file_of kind) ≤ g.D.Depot.taken c.begin.new.depot (file_of kind) + most_taken kind k.options.mode k.table k.options.iterations) (same_key w new c.in-Ok.ensures.same) (c.run_turns.ensures.most kind) in
+    let same = c.in-Ok.ensures.reads.taken (file_of kind) (λ e. infos_apart kind (sym e)) in
+    omega (arith, rest, same)
+
+pub returns-clause-most : goal.returns-clause-most
+returns-clause-most g c kind =
+    let same = c.in-Err.ensures.reads.taken (file_of kind) (λ e. infos_apart kind (sym e)) in
+    omega (arith, same)

@@ -4,6 +4,7 @@ use Rattle.partition.specs.Parts.{Cut}
 use Rattle.lumos_depot.specs.Steps.{RoseBy}
 use Rattle.early_engine.specs.Engines.{IsStanding, cut_in}
 use Rattle.early_engine.specs.Gone.{HasPassed}
+use Rattle.early_engine.specs.Grids.{bytes_in}
 use Rattle.early_engine.specs.Passes.{file_of, kind_of, primary_bytes, secondary_bytes}
 use Rattle.early_engine.specs.Reported.{IsReported, TurnReports}
 use Rattle.early_engine.specs.Turns.{HasTurned, RunShows, TurnComes, phase_after}
@@ -99,3 +100,13 @@ returns-in-Ok-clause-secondary g c edges =
     (stood (model here.program) edges told _ here.layout.parts (here.finished + 1)
     (λ (k : Cut). RoseBy held after (secondary_bytes (model here.program) edges k.vertices k.parts here.options.mode here.options.iterations (here.finished + 1))) c.self.invariant.cut_fits refl
     (λ done grid at kept. c.in-Ok.ensures.secondary edges done grid at kept))
+
+pub returns-in-Ok-clause-most : goal.returns-in-Ok-clause-most
+returns-in-Ok-clause-most g c =
+    subst (λ w. g.D.Depot.taken c.make_turn.new.depot (file_of (kind_of w.options.mode (w.finished + 1))) ≤ g.D.Depot.taken c.args.depot.now (file_of (kind_of w.options.mode (w.finished + 1))) + bytes_in (kind_of w.options.mode (w.finished + 1)) w.table) c.self.view_is
+    c.in-Ok.ensures.most
+
+pub returns-in-Err-clause-most : goal.returns-in-Err-clause-most
+returns-in-Err-clause-most g c =
+    subst (λ w. g.D.Depot.taken c.make_turn.new.depot (file_of (kind_of w.options.mode (w.finished + 1))) ≤ g.D.Depot.taken c.args.depot.now (file_of (kind_of w.options.mode (w.finished + 1))) + bytes_in (kind_of w.options.mode (w.finished + 1)) w.table) c.self.view_is
+    c.in-Err.ensures.most

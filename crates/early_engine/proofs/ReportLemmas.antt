@@ -92,9 +92,9 @@ module _ {V S : Type 0} (p : Program V S) where
         let here : next ≡ suc t = at ∙ add-one t in
         let lines : ℕ → List ℕ = λ k. stage_lines p show mode n k made.counts made.state in
         let tells = ap (λ (k : ℕ). turn_of k limit made.counts.moved) (sym here) ∙ sym made.tells ∙ going in
-        let text = made.written ∙ ap (λ u. after_told mid (lines next ++ turn_line u)) going ∙ ap (after_told mid) (append-nil (lines next)) ∙ ap (λ m. after_told m (lines next)) before.1.1
+        let text = made.written ∙ ap (λ u. after_told mid (lines next ++ turn_line u)) going ∙ ap (after_told mid) (append-nil (lines next)) ∙ ap (λ m. after_told m (lines next)) before.2
         ∙ after_told-after old before.0 (lines next) ∙ ap (λ (k : ℕ). after_told old (before.0 ++ lines k)) here in
-        subst (λ (k : ℕ). Went k old new) (sym (add-one t)) (before.0 ++ lines (suc t), (before.0, before.1.0, made.counts, made.state, tells, refl), text)
+        subst (λ (k : ℕ). Went k old new) (sym (add-one t)) (before.0 ++ lines (suc t), (before.0, before.1, made.counts, made.state, tells, refl), text)
 
     -- the last iteration
     pub went_last : (t next : ℕ) (items : List V) (old mid new : Option (List ℕ)) (turn : Turn) (end : Ending) → next ≡ t + 1 → next ≤ limit → turn ≡ Ended end → Went t old mid → IsReported p show mode limit n next items mid new turn
@@ -107,13 +107,13 @@ module _ {V S : Type 0} (p : Program V S) where
         record {
           before = t;
           early = before.0;
-          went = before.1.0;
+          went = before.1;
           counts = made.counts;
           state = made.state;
           tells = tells;
           last = last;
           most = omega (arith, last, here, low);
-          written = made.written ∙ ap (λ u. after_told mid (lines next ++ turn_line u)) is ∙ ap (λ m. after_told m (lines next ++ ending_line end)) before.1.1
+          written = made.written ∙ ap (λ u. after_told mid (lines next ++ turn_line u)) is ∙ ap (λ m. after_told m (lines next ++ ending_line end)) before.2
               ∙ after_told-after old before.0 (lines next ++ ending_line end) ∙ ap (after_told old) (sym (append_assoc before.0 (lines next) (ending_line end)))
               ∙ ap (λ (k : ℕ). after_told old ((before.0 ++ lines k) ++ ending_line end)) here;
         }

@@ -1,5 +1,5 @@
 -- How a replay ends over the outside.
-use Rattle.std.proofs.Common.{◌≡◌, ◌<◌, ◌≤◌, ℕ, false, ltb, List, [], ◌++◌, length, Option, None, Result, Ok, Err, refl, ap, subst, ◌∙◌}
+use Rattle.std.proofs.Common.{◌≡◌, ◌<◌, ◌≤◌, ℕ, ltb, List, [], ◌++◌, length, Option, None, Result, Ok, Err, refl, ap, subst, ◌∙◌}
 use Rattle.std.proofs.lemmas.Bool.{cond-false, cond-true, le-ltb, lt-ltb}
 use Rattle.flight_core.specs.Replayed.{Replayed, begun}
 use Rattle.flight_core.specs.declared.event.Event.{Event}

@@ -1,6 +1,8 @@
-use Rattle.std.proofs.Common.{◌≡◌, Ok, Err, refl, sym, ap, ◌∙◌}
+use Rattle.std.proofs.Common.{◌≡◌, Result, Ok, Err, refl, sym, ap, ◌∙◌}
 use Rattle.lumos_top.specs.Outcome.{answer, answer_to}
 use Rattle.lumos_top.specs.Words.{texts_of}
+use Rattle.lumos_top.specs.declared.status.Completed.{Completed}
+use Rattle.lumos_top.specs.declared.status.Stop.{Stop}
 use Rattle.lumos_top.specs.declared.status.Stop.TheVariants.{Usage}
 use Rattle.lumos_top.proofs.GridEnds.{asked_takes, replay_takes}
 use Rattle.lumos_top.proofs.RunLemmas.{asked_for, build_refused, refused, replay_refused, run_refused, same_grid, words_refused}
@@ -45,4 +47,4 @@ returns-in-Replay-clause-refused g c = λ why is.
 
 pub returns-in-Err-clause-refused : goal.returns-in-Err-clause-refused
 returns-in-Err-clause-refused g c = λ why is.
-    words_refused (λ w. (Err (Usage c.in-Err.fault) ≡ Err w) × (c.args.input.now ≡ c.args.input.now) × (c.args.depot.now ≡ c.args.depot.now) × (c.args.out.now ≡ c.args.out.now)) (texts_of c.args.words.now) c.in-Err.fault why (sym c.read_words.ensures.value ∙ c.in-Err.is) (refl, refl, refl, refl) is
+    words_refused (λ w. (◌≡◌ {A = Result Completed Stop} (Err (Usage c.in-Err.fault)) (Err w)) × (c.args.input.now ≡ c.args.input.now) × (c.args.depot.now ≡ c.args.depot.now) × (c.args.out.now ≡ c.args.out.now)) (texts_of c.args.words.now) c.in-Err.fault why (sym c.read_words.ensures.value ∙ c.in-Err.is) (refl, refl, refl, refl) is

@@ -1,6 +1,5 @@
 use Rattle.std.proofs.Common.{IfOk, sym, subst}
 use Rattle.lumos_top.specs.Running.{EndShown, IsOverIn, IsReportOf}
-use Rattle.lumos_top.specs.declared.words.ProgramName.TheVariants.{Components, Tally}
 use Rattle.lumos_top.proofs.running.run_grid.Goals as goal
 
 pub returns-in-Components-clause-shown : goal.returns-in-Components-clause-shown

@@ -80,7 +80,9 @@ pub returns-in-Err-clause-damaged : goal.returns-in-Err-clause-damaged
 returns-in-Err-clause-damaged g c = damaged_open c.args.info (g.D.Depot.holds c.args.depot.now Meta) c.in-Err.fault _ c.open_stop.ensures c.in-Err.ensures.damaged
 
 pub returns-in-Err-clause-leaves : goal.returns-in-Err-clause-leaves
-returns-in-Err-clause-leaves g c = λ list parts of. unopened _ c.args.info _ _ c.in-Err.fault _ c.open_stop.ensures c.in-Err.ensures.damaged
+returns-in-Err-clause-leaves g c = λ list parts of.
+    let ran = ran_by (g.G.VertexProgram.model c.args.program) (g.G.VertexProgram.name_text c.args.program) parts c.args.iterations c.args.mode list in
+    unopened ran c.args.info (g.D.Depot.holds c.args.depot.now) (g.O.Sink.written c.args.out.now) c.in-Err.fault c.open_stop.result c.open_stop.ensures c.in-Err.ensures.damaged
 
 pub open_stop-requires : goal.open_stop-requires
 open_stop-requires g c = λ need given is. opens_within c.args.info (g.D.Depot.holds c.args.depot.now Meta) c.in-Err.fault need given c.in-Err.ensures.damaged is

@@ -22,7 +22,7 @@ use Rattle.column_stream.specs.declared.records.Ends.{Ends}
 use Rattle.column_stream.proofs.BlockLemmas.{block_streamed, low_streamed}
 use Rattle.column_stream.specs.Blocks.{IsStreamed}
 use Rattle.lumos_depot.proofs.StepLemmas.{told_more, told_same}
-use Rattle.early_engine.specs.Grids.{HasBlocks, IsIntact, IsLaid, IsOnGrid, ShowsStray, bytes_in, ends_of, place_in}
+use Rattle.early_engine.specs.Grids.{HasBlocks, IsIntact, IsLaid, IsOfBlock, IsOnGrid, bytes_in, ends_of, place_in}
 use Rattle.early_engine.specs.Passes.{file_of}
 use Rattle.early_engine.specs.Steps.{GoesThrough}
 use Rattle.lumos_base.specs.Records.{IsEdge}
@@ -140,11 +140,6 @@ cursor_inside kind cut table room i j told cursor laid row column low has begins
 pub blocks_same : (table : BlockCounts) (old new : FileKind → Option (List ℕ)) → Same old new → HasBlocks table old → HasBlocks table new
 blocks_same table old new same has kind = told_same (old (file_of kind)) (new (file_of kind)) (λ file. bytes_in kind table ≤ length file) (same (file_of kind)) (has kind)
 
--- a damaged record of a block is one of some block
-pub shows_stray : (kind : Kind) (cut : Cut) (table : BlockCounts) (i j : ℕ) (cursor : CursorState) (fault : FileFault) → cursor ≡ cursor_at kind cut table i j → i < cut.parts → j < cut.parts
-    → IsDamage cursor.file cursor.ends cursor.place cursor.left fault → ShowsStray cut table fault
-shows_stray kind cut table i j cursor Depot begins row column damage = tt
-shows_stray kind cut table i j cursor (Damaged file place found) begins row column damage =
-    let here : IsDamage (file_of kind) (ends_of cut i j) (place_in kind table i j) (count_at table i j) (Damaged file place found) =
-    subst (λ (k : CursorState). IsDamage k.file k.ends k.place k.left (Damaged file place found)) begins damage in
-    record { kind = kind; row = i; column = j; file_is = here.0; row_in = row; column_in = column; stray = here.1 }
+-- a damaged record is one of the block
+pub of_block : (kind : Kind) (cut : Cut) (table : BlockCounts) (i j : ℕ) (cursor : CursorState) (fault : FileFault) → cursor ≡ cursor_at kind cut table i j → IsDamage cursor.file cursor.ends cursor.place cursor.left fault → IsOfBlock kind cut table i j fault
+of_block kind cut table i j cursor fault begins damage = subst (λ (k : CursorState). IsDamage k.file k.ends k.place k.left fault) begins damage

@@ -1,6 +1,8 @@
 -- Parts that aren't hot, and which blocks are needed.
-use Rattle.std.proofs.Common.{◌≡◌, ◌&&◌, ◌||◌, ℕ, zero, suc, ◌+◌, ◌<◌, ◌^◌, Bool, true, false, List, take, refl, sym, ap, ◌∙◌, subst, add-one, arith}
+use Rattle.std.proofs.Common.{◌≡◌, ◌&&◌, ◌||◌, ℕ, zero, suc, ◌+◌, ◌<◌, ◌≤◌, ◌^◌, nat_lt, Bool, true, false, List, Option, set, take, refl, sym, ap, ◌∙◌, subst, add-one, arith}
 use Rattle.std.specs.List.{AllByRecursion}
+use Rattle.std.proofs.lemmas.Bool.{ltb-true}
+use Rattle.std.proofs.lemmas.List.{get_or-set_other}
 use Rattle.std.proofs.lemmas.List.Elements.{recursion_from_All}
 use Rattle.active_sets.specs.Active.{hot_at}
 use Rattle.lumos_base.specs.Records.{IsEdge}
@@ -17,10 +19,15 @@ use Rattle.partition.specs.Parts.{Cut, chunk_of, first_vertex, part_length, IsIn
 use Rattle.partition.proofs.BlockLemmas.{block_sources, column_more}
 use Rattle.flight_core.specs.EdgeList.{IsEdgeList}
 use Rattle.flight_core.proofs.FedEdgeLemmas.{all_map}
-use Rattle.early_engine.specs.Passes.{is_hot}
+use Rattle.lumos_depot.specs.declared.depot.FileKind.{FileKind}
+use Rattle.grid_format.specs.Tables.{BlockCounts}
+use Rattle.early_engine.specs.Gone.{AreOf}
+use Rattle.early_engine.specs.Grids.{IsOnGrid}
+use Rattle.early_engine.specs.Passes.{Place, is_hot, needed, place_at, size_at}
 use Rattle.early_engine.specs.Steps.{AreHot, IsFedTo, IsReady}
 use Rattle.early_engine.proofs.FeedLemmas.{fed_more}
 use Rattle.early_engine.proofs.FlagLemmas.{any_none}
+use Rattle.early_engine.proofs.GridLemmas.{size_is}
 
 -- what isn't needed isn't hot
 pub not_hot : (hot needed : Bool) → (hot ≡ true → needed ≡ true) → needed ≡ false → hot ≡ false
@@ -48,7 +55,29 @@ pub need_alone : (w x : Bool) → w ≡ x → w ≡ (x || false)
 need_alone true x same = ap (λ b. b || false) same
 need_alone false x same = ap (λ b. b || false) same
 
+-- what a part's flag says tells nothing of the columns before it and its own
+pub of_before : (table : BlockCounts) (were flags new : List Bool) (ahead : Bool) (size : Place → ℕ) (need : Place → Bool) (j : ℕ) (now : Bool) → new ≡ set flags j now → (i k : ℕ) → k ≤ j
+    → AreOf table were new ahead size need i k → AreOf table were flags ahead size need i k
+of_before table were flags new ahead size need j now same i k low are = record {
+  size_is = are.size_is;
+  need_is = need_same ahead (nat_lt i k) (hot_at were i) (hot_at were i) (hot_at flags i) (hot_at new i) refl
+      (λ above. let high : i < k = ltb-true i k above in sym (ap (λ f. hot_at f i) same ∙ get_or-set_other flags j i now false (λ e. omega arith)))
+      ∙ are.need_is;
+}
+
 module _ {V S : Type 0} (p : Program V S) (edges : List Edge) (cut : Cut) where
+  -- a told grid has these numbers of edges, and its flags these needs
+  pub told_of : (table : BlockCounts) (told : FileKind → Option (List ℕ)) (were are : List Bool) (ahead : Bool) (t u i j : ℕ) → u ≡ suc t → i < cut.parts → j < cut.parts → IsOnGrid edges cut table told
+      → AreHot p edges cut cut.parts t were → AreHot p edges cut cut.parts (suc t) are
+      → AreOf table were are ahead (size_at edges (chunk_of cut)) (needed (is_hot p edges cut.vertices cut.parts) ahead u) i j
+  told_of table told were are ahead t u i j next row column grid before now =
+      let hot = is_hot p edges cut.vertices cut.parts in
+      record {
+        size_is = sym (size_is edges cut table told i j row column grid);
+        need_is = need_same ahead (nat_lt i j) (hot_at were i) (hot t i) (hot_at are i) (hot (suc t) i) (before i row) (λ low. now i row)
+            ∙ ap (λ (w : ℕ). needed hot ahead w (place_at i j)) (sym next);
+      }
+
   -- the same flags as before
   pub hot_still : (t : ℕ) (old new : List Bool) → new ≡ old → AreHot p edges cut cut.parts t old → AreHot p edges cut cut.parts t new
   hot_still t old new same were i below = ap (λ f. hot_at f i) same ∙ were i below

@@ -10,6 +10,7 @@ pub mod OpenLemmas
 pub mod OverLemmas
 pub mod PassLemmas
 pub mod PassSteps
+pub mod PassedLemmas
 pub mod ReadLemmas
 pub mod Repeats
 pub mod ReportLemmas

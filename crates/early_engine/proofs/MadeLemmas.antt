@@ -20,14 +20,15 @@ use Rattle.flight_core.proofs.ColumnLemmas.{column-sum}
 use Rattle.flight_core.proofs.FinishLemmas.{finish_join}
 use Rattle.grid_format.specs.Tables.{BlockCounts}
 use Rattle.io_account.specs.declared.Counts.{Counts}
-use Rattle.lumos_depot.specs.Steps.{RoseBy}
+use Rattle.early_engine.specs.Gone.{AreOf, HasGone}
 use Rattle.early_engine.specs.Grids.{IsOnGrid}
-use Rattle.std.specs.Prelude.{MatchResult, OnOk}
+use Rattle.std.specs.Prelude.{IfOk, MatchResult}
 use Rattle.early_engine.specs.Making.{IsMade, IsUnmade}
-use Rattle.early_engine.specs.Passes.{bytes_of, feeds_ahead, file_of, iteration_bytes, kind_of, passes, places_below, tally_of}
+use Rattle.early_engine.specs.Passes.{Place, feeds_ahead, kind_of, passes, size_at, tally_of}
 use Rattle.early_engine.specs.declared.iteration.Stop.{Stop}
 use Rattle.early_engine.specs.declared.options.Mode.{Mode}
 use Rattle.early_engine.specs.Early.{early_sum}
+use Rattle.early_engine.proofs.HotLemmas.{told_of}
 use Rattle.early_engine.specs.Steps.{AreHot, IsFedTo, IsMadeBelow, IsPassed, came_of, needs_by}
 use Rattle.lumos_report.specs.declared.records.Kind.{Kind}
 use Rattle.std.proofs.lemmas.Slice.{take-put_mid}
@@ -88,43 +89,33 @@ all_parts cut j some all =
 
 module _ {V S : Type 0} (p : Program V S) where
   -- all parts make the iteration
-  pub made_all : (edges : List Edge) (cut : Cut) (kind : Kind) (ahead : Bool) (j t : ℕ) (after : List V) (early : List S) (flags : List Bool) (counts : Counts) → 0 < cut.parts → j ≡ cut.parts → length after ≡ cut.vertices
+  pub made_all : (edges : List Edge) (cut : Cut) (ahead : Bool) (j t : ℕ) (after : List V) (early : List S) (flags : List Bool) (counts : Counts) → 0 < cut.parts → j ≡ cut.parts → length after ≡ cut.vertices
       → IsMadeBelow p edges cut j t after counts.moved → AreHot p edges cut j (suc t) flags
-      → counts ≡ tally_of kind edges (chunk_of cut) (needs_by p edges cut ahead t) (places_below kind cut.parts j) counts.moved
-      → (ahead ≡ true → IsChunk (early_sum p edges (chunk_of cut) (values p edges (suc t))) 0 early) → IsPassed p edges cut kind ahead t after early flags counts
-  made_all edges cut kind ahead j t after early flags counts some all long made hot counted sums =
+      → (ahead ≡ true → IsChunk (early_sum p edges (chunk_of cut) (values p edges (suc t))) 0 early) → IsPassed p edges cut ahead t after early flags counts
+  made_all edges cut ahead j t after early flags counts some all long made hot sums =
       let whole = all_parts cut j some all in
-      let need = needs_by p edges cut ahead t in
       record {
         holds = subst (IsChunk (values p edges (suc t)) 0) (take_all (first_vertex cut.vertices (chunk_of cut) j) after (omega arith)) made.chunk;
         early = sums;
         active = λ i below. hot i (omega arith);
-        counted = counted ∙ ap (λ (k : ℕ). tally_of kind edges (chunk_of cut) need (places_below kind cut.parts k) counts.moved) all
-            ∙ ap (tally_of kind edges (chunk_of cut) need (passes kind cut.parts)) (made.count ∙ ap (λ (n : ℕ). (came_of p edges t n).moved) whole);
+        moved = made.count ∙ ap (λ (n : ℕ). (came_of p edges t n).moved) whole;
         none = over_none _ (sym (ap (λ (n : ℕ). (came_of p edges t n).over) whole) ∙ made.none);
       }
 
 -- an iteration by one of its kind is the one of the run
-pub passed_made : {V S : Type 0} (p : Program V S) (edges : List Edge) (cut : Cut) (mode : Mode) (limit t : ℕ) (kind : Kind) (ahead : Bool) (after : List V) (early : List S) (flags : List Bool) (result : Result Counts Stop)
-    → kind ≡ kind_of mode (suc t) → ahead ≡ feeds_ahead mode limit (suc t)
-    → MatchResult result (IsPassed p edges cut kind ahead t after early flags) (IsUnmade p edges cut t) → MatchResult result (IsMade p edges cut mode limit t after early flags) (IsUnmade p edges cut t)
-passed_made p edges cut mode limit t kind ahead after early flags (Ok counts) kind_is ahead_is passed = record {
-  kept = record { holds = passed.holds; ahead = λ on. passed.early (ahead_is ∙ on); active = passed.active };
-  counted = passed.counted ∙ (λ i. tally_of (kind_is i) edges (chunk_of cut) (needs_by p edges cut (ahead_is i) t) (passes (kind_is i) cut.parts) (moved_count p edges cut.vertices t));
-  none = passed.none;
-}
-passed_made p edges cut mode limit t kind ahead after early flags (Err stop) kind_is ahead_is unmade = unmade
-
--- and takes as many bytes
-pub rose_as : {V S : Type 0} (p : Program V S) (edges : List Edge) (cut : Cut) (mode : Mode) (limit done t : ℕ) (kind : Kind) (ahead : Bool) (old new : FileKind → ℕ) (result : Result Counts Stop)
-    → t ≡ suc done → kind ≡ kind_of mode t → ahead ≡ feeds_ahead mode limit t
-    → OnOk result (RoseBy (old (file_of kind)) (new (file_of kind)) (bytes_of edges (chunk_of cut) (needs_by p edges cut ahead done) (passes kind cut.parts)))
-    → OnOk result (RoseBy (old (file_of (kind_of mode t))) (new (file_of (kind_of mode t))) (iteration_bytes p edges cut.vertices cut.parts mode limit t))
-rose_as p edges cut mode limit done t kind ahead old new result next kind_is ahead_is rose =
-    subst (λ (u : ℕ). OnOk result (RoseBy (old (file_of (kind_of mode u))) (new (file_of (kind_of mode u))) (iteration_bytes p edges cut.vertices cut.parts mode limit u))) (sym next)
-    (subst (λ (a : Bool). OnOk result (RoseBy (old (file_of (kind_of mode (suc done)))) (new (file_of (kind_of mode (suc done)))) (bytes_of edges (chunk_of cut) (needs_by p edges cut a done) (passes (kind_of mode (suc done)) cut.parts))))
-    (ahead_is ∙ ap (feeds_ahead mode limit) next)
-    (subst (λ (k : Kind). OnOk result (RoseBy (old (file_of k)) (new (file_of k)) (bytes_of edges (chunk_of cut) (needs_by p edges cut ahead done) (passes k cut.parts)))) (kind_is ∙ ap (kind_of mode) next) rose))
+pub passed_made : {V S : Type 0} (p : Program V S) (edges : List Edge) (cut : Cut) (table : BlockCounts) (told : FileKind → Option (List ℕ)) (mode : Mode) (limit t before after : ℕ) (kind : Kind) (ahead : Bool) (items : List V) (early : List S) (were are : List Bool) (result : Result Counts Stop)
+    → kind ≡ kind_of mode (suc t) → ahead ≡ feeds_ahead mode limit (suc t) → IsOnGrid edges cut table told → AreHot p edges cut cut.parts t were
+    → ((size : Place → ℕ) (need : Place → Bool) → ((i j : ℕ) → i < cut.parts → j < cut.parts → AreOf table were are ahead size need i j) → IfOk result (HasGone kind size need (passes kind cut.parts) before after))
+    → MatchResult result (IsPassed p edges cut ahead t items early are) (IsUnmade p edges cut t) → MatchResult result (IsMade p edges cut mode limit t items early are) (IsUnmade p edges cut t)
+passed_made p edges cut table told mode limit t before after kind ahead items early were are (Ok counts) kind_is ahead_is grid hot gone passed =
+    let size = size_at edges (chunk_of cut) in
+    let counted = (gone size (needs_by p edges cut ahead t) (λ i j row column. told_of p edges cut table told were are ahead t (suc t) i j refl row column grid hot passed.active)).counted in
+    record {
+      kept = record { holds = passed.holds; ahead = λ on. passed.early (ahead_is ∙ on); active = passed.active };
+      counted = counted ∙ (λ i. tally_of (kind_is i) size (needs_by p edges cut (ahead_is i) t) (passes (kind_is i) cut.parts) (passed.moved i));
+      none = passed.none;
+    }
+passed_made p edges cut table told mode limit t before after kind ahead items early were are (Err stop) kind_is ahead_is grid hot gone unmade = unmade
 
 -- a chunk put behind those before it
 pub chunk_put : {X : Type 0} (state : ℕ → X) (xs new : List X) (first size start past : ℕ) → first ≡ start → past ≡ first + length new → first ≤ length xs

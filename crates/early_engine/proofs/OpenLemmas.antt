@@ -1,7 +1,7 @@
 -- The files behind a head that was accepted.
-use Rattle.std.proofs.Common.{◌≡◌, ◌==◌, ◌≤◌, ℕ, ◌*◌, Bool, true, false, List, length, sum, Option, Some, None, Ok, Err, is_some, refl, sym, ap, subst, ◌∙◌, arith}
+use Rattle.std.proofs.Common.{◌≡◌, ◌==◌, ◌⊎◌, inl, inr, ◌<◌, ◌≤◌, ℕ, ◌+◌, ◌*◌, Bool, true, false, List, length, sum, Option, Some, None, Ok, Err, is_some, refl, sym, ap, subst, ◌∙◌, arith}
 use Rattle.std.specs.Prelude.{IfSome, if◌then◌else◌}
-use Rattle.std.proofs.lemmas.Bool.{eqb-true}
+use Rattle.std.proofs.lemmas.Bool.{cases_eq, eqb-true}
 use Rattle.lumos_depot.specs.declared.depot.FileKind.{FileKind}
 use Rattle.lumos_depot.specs.declared.depot.FileKind.TheVariants.{Meta, Primary, Secondary, Info}
 use Rattle.grid_format.specs.Checks.{GridFiles, ◌>>=◌, counted, fields_of, files_sized, head_of, in_meta, sized, table_of}
@@ -83,3 +83,11 @@ module _ (told : FileKind → Option (List ℕ)) (all : (j k : FileKind) → is_
     -- a Primary and a Secondary that are told have the records of the table's blocks
     pub blocks_fit : HasBlocks table told
     blocks_fit kind = blocks_by (told Meta) kind refl
+
+-- a bound of the numbers before i and of that at i
+pub up_to : (f : ℕ → ℕ) (i k most : ℕ) → k < i + 1 → (k < i → f k ≤ most) → f i ≤ most → f k ≤ most
+up_to f i k most low before here = by (cases_eq k i)
+  where
+    by : (k ≡ i) ⊎ (k ≡ i → ⊥) → f k ≤ most
+    by (inl same) = subst (λ (n : ℕ). f n ≤ most) (sym same) here
+    by (inr apart) = before (omega arith)

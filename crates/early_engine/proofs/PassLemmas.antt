@@ -1,17 +1,19 @@
 -- One block more among those that an iteration goes through.
-use Rattle.std.proofs.Common.{◌≡◌, ◌==◌, ◌<◌, ℕ, ◌+◌, ◌*◌, ◌&&◌, Bool, true, false, not, cond, nat_lt, List, [], ◌∷◌, ◌++◌, flat_map, length, map, count_by, sum_by, refl, sym, ap, ap₂, ◌∙◌, arith, add-one, append-nil, length-append}
+use Rattle.std.proofs.Common.{◌≡◌, ◌==◌, ◌<◌, ℕ, ◌+◌, ◌*◌, ◌&&◌, Bool, true, false, not, cond, nat_lt, List, [], ◌∷◌, ◌++◌, flat_map, length, map, count_by, sum_by, refl, sym, ap, ap₂, ◌∙◌, subst, arith, add-one, append-nil, length-append}
 use Rattle.std.specs.List.{range_with_len}
 use Rattle.std.proofs.lemmas.Bool.{eq-eqb, lt-ltb, ne_eqb}
 use Rattle.std.proofs.lemmas.Grind.{flat_map-append}
 use Rattle.std.proofs.lemmas.List.{map-append}
 use Rattle.std.proofs.lemmas.List.Elements.{filter-append}
 use Rattle.std.proofs.lemmas.List.Sums.{sum_by-append}
-use Rattle.lumos_base.specs.declared.records.Edge.{Edge}
 use Rattle.partition.proofs.BucketLemmas.{range_more}
 use Rattle.io_account.specs.declared.Counts.{Counts}
 use Rattle.lumos_report.specs.declared.records.Kind.{Kind}
 use Rattle.lumos_report.specs.declared.records.Kind.TheVariants.{Full, Fed}
-use Rattle.early_engine.specs.Passes.{Place, bytes_of, place_at, places, places_below, reads, size_at, tally_of}
+use Rattle.lumos_depot.specs.Steps.{RoseBy}
+use Rattle.lumos_depot.proofs.StepLemmas.{rose_whole}
+use Rattle.early_engine.specs.Gone.{HasGone}
+use Rattle.early_engine.specs.Passes.{Place, bytes_of, place_at, places, places_below, reads, tally_of}
 use Rattle.early_engine.specs.Steps.{with_read}
 
 -- the blocks of column j in the n rows from a on
@@ -91,89 +93,132 @@ one_empty_more : (kind : Kind) (read skipped empty moved : ℕ) → counted_as k
 one_empty_more Full read skipped empty moved = refl
 one_empty_more Fed read skipped empty moved = refl
 
-module _ (edges : List Edge) (c : ℕ) (need : Place → Bool) where
+module _ (size : Place → ℕ) (need : Place → Bool) where
   abbrev is_read : Place → Bool
-  is_read b = nat_lt 0 (size_at edges c b) && need b
+  is_read b = nat_lt 0 (size b) && need b
 
   abbrev is_skipped : Place → Bool
-  is_skipped b = nat_lt 0 (size_at edges c b) && not (need b)
+  is_skipped b = nat_lt 0 (size b) && not (need b)
 
   abbrev is_empty : Place → Bool
-  is_empty b = size_at edges c b == 0
+  is_empty b = size b == 0
 
   -- the bytes of some blocks and of others
-  pub bytes_both : (some bs : List Place) → bytes_of edges c need (some ++ bs) ≡ bytes_of edges c need some + bytes_of edges c need bs
+  pub bytes_both : (some bs : List Place) → bytes_of size need (some ++ bs) ≡ bytes_of size need some + bytes_of size need bs
   bytes_both some bs =
-      ap (sum_by (λ x. 12 * size_at edges c x)) (filter-append is_read some bs)
-      ∙ sum_by-append (λ x. 12 * size_at edges c x) (reads edges c need some) (reads edges c need bs)
+      ap (sum_by (λ x. 12 * size x)) (filter-append is_read some bs)
+      ∙ sum_by-append (λ x. 12 * size x) (reads size need some) (reads size need bs)
 
-  one_block : (b : Place) (is : Bool) → is_read b ≡ is → bytes_of edges c need (b ∷ []) ≡ cond is (12 * size_at edges c b) 0
-  one_block b is same = one_sum (is_read b) (λ x. 12 * size_at edges c x) b ∙ ap (λ t. cond t (12 * size_at edges c b) 0) same
+  one_block : (b : Place) (is : Bool) → is_read b ≡ is → bytes_of size need (b ∷ []) ≡ cond is (12 * size b) 0
+  one_block b is same = one_sum (is_read b) (λ x. 12 * size x) b ∙ ap (λ t. cond t (12 * size b) 0) same
 
   -- those of a block that is read
-  pub bytes_read : (b : Place) → 0 < size_at edges c b → need b ≡ true → bytes_of edges c need (b ∷ []) ≡ 12 * size_at edges c b
-  bytes_read b some is = one_block b true (ap₂ (λ (x : Bool) (y : Bool). x && y) (some_edges (size_at edges c b) some) is)
+  pub bytes_read : (b : Place) → 0 < size b → need b ≡ true → bytes_of size need (b ∷ []) ≡ 12 * size b
+  bytes_read b some is = one_block b true (ap₂ (λ (x : Bool) (y : Bool). x && y) (some_edges (size b) some) is)
 
   -- of one that isn't needed
-  pub bytes_skipped : (b : Place) → need b ≡ false → bytes_of edges c need (b ∷ []) ≡ 0
-  bytes_skipped b is = one_block b false (ap (λ x. nat_lt 0 (size_at edges c b) && x) is ∙ no_and (nat_lt 0 (size_at edges c b)))
+  pub bytes_skipped : (b : Place) → need b ≡ false → bytes_of size need (b ∷ []) ≡ 0
+  bytes_skipped b is = one_block b false (ap (λ x. nat_lt 0 (size b) && x) is ∙ no_and (nat_lt 0 (size b)))
 
   -- of one without edges
-  pub bytes_empty : (b : Place) → size_at edges c b ≡ 0 → bytes_of edges c need (b ∷ []) ≡ 0
-  bytes_empty b none = one_block b false (ap (λ x. x && need b) (no_edges (size_at edges c b) none))
+  pub bytes_empty : (b : Place) → size b ≡ 0 → bytes_of size need (b ∷ []) ≡ 0
+  bytes_empty b none = one_block b false (ap (λ x. x && need b) (no_edges (size b) none))
 
-  read_more : (bs : List Place) (b : Place) (is : Bool) → is_read b ≡ is → length (reads edges c need (bs ++ b ∷ [])) ≡ length (reads edges c need bs) + cond is 1 0
+  read_more : (bs : List Place) (b : Place) (is : Bool) → is_read b ≡ is → length (reads size need (bs ++ b ∷ [])) ≡ length (reads size need bs) + cond is 1 0
   read_more bs b is same =
       ap length (filter-append is_read bs (b ∷ []))
-      ∙ length-append (reads edges c need bs) (cond (is_read b) (b ∷ []) [])
-      ∙ ap (λ (n : ℕ). length (reads edges c need bs) + n) (one_read (is_read b) b)
-      ∙ ap (λ (t : Bool). length (reads edges c need bs) + cond t 1 0) same
+      ∙ length-append (reads size need bs) (cond (is_read b) (b ∷ []) [])
+      ∙ ap (λ (n : ℕ). length (reads size need bs) + n) (one_read (is_read b) b)
+      ∙ ap (λ (t : Bool). length (reads size need bs) + cond t 1 0) same
 
-  read_same : (bs : List Place) (b : Place) → is_read b ≡ false → length (reads edges c need (bs ++ b ∷ [])) ≡ length (reads edges c need bs)
-  read_same bs b not_it = read_more bs b false not_it ∙ none_more (length (reads edges c need bs))
+  read_same : (bs : List Place) (b : Place) → is_read b ≡ false → length (reads size need (bs ++ b ∷ [])) ≡ length (reads size need bs)
+  read_same bs b not_it = read_more bs b false not_it ∙ none_more (length (reads size need bs))
 
-  tally_is : (kind : Kind) (bs : List Place) (moved read skipped empty : ℕ) → length (reads edges c need bs) ≡ read → count_by is_skipped bs ≡ skipped → count_by is_empty bs ≡ empty
-      → tally_of kind edges c need bs moved ≡ counted_as kind read skipped empty moved
+  tally_is : (kind : Kind) (bs : List Place) (moved read skipped empty : ℕ) → length (reads size need bs) ≡ read → count_by is_skipped bs ≡ skipped → count_by is_empty bs ≡ empty
+      → tally_of kind size need bs moved ≡ counted_as kind read skipped empty moved
   tally_is Full bs moved read skipped empty first second third = λ i. counted_as Full (first i) (second i) (third i) moved
   tally_is Fed bs moved read skipped empty first second third = λ i. counted_as Fed (first i) (second i) (third i) moved
 
-  as_counted : (kind : Kind) (bs : List Place) (moved : ℕ) → counted_as kind (length (reads edges c need bs)) (count_by is_skipped bs) (count_by is_empty bs) moved ≡ tally_of kind edges c need bs moved
+  as_counted : (kind : Kind) (bs : List Place) (moved : ℕ) → counted_as kind (length (reads size need bs)) (count_by is_skipped bs) (count_by is_empty bs) moved ≡ tally_of kind size need bs moved
   as_counted kind bs moved = sym (tally_is kind bs moved _ _ _ refl refl refl)
 
   -- a block that is read
-  pub tally_read : (kind : Kind) (bs : List Place) (b : Place) (moved : ℕ) → 0 < size_at edges c b → need b ≡ true → tally_of kind edges c need (bs ++ b ∷ []) moved ≡ with_read kind (tally_of kind edges c need bs moved)
+  pub tally_read : (kind : Kind) (bs : List Place) (b : Place) (moved : ℕ) → 0 < size b → need b ≡ true → tally_of kind size need (bs ++ b ∷ []) moved ≡ with_read kind (tally_of kind size need bs moved)
   tally_read kind bs b moved some is =
-      let there = some_edges (size_at edges c b) some in
-      tally_is kind (bs ++ b ∷ []) moved (length (reads edges c need bs) + 1) (count_by is_skipped bs) (count_by is_empty bs)
+      let there = some_edges (size b) some in
+      tally_is kind (bs ++ b ∷ []) moved (length (reads size need bs) + 1) (count_by is_skipped bs) (count_by is_empty bs)
       (read_more bs b true (ap₂ (λ (x : Bool) (y : Bool). x && y) there is))
       (counted_same is_skipped bs b (ap₂ (λ (x : Bool) (y : Bool). x && not y) there is))
-      (counted_same is_empty bs b (ne_eqb (size_at edges c b) 0 (λ none. omega arith)))
-      ∙ one_read_more kind (length (reads edges c need bs)) (count_by is_skipped bs) (count_by is_empty bs) moved
+      (counted_same is_empty bs b (ne_eqb (size b) 0 (λ none. omega arith)))
+      ∙ one_read_more kind (length (reads size need bs)) (count_by is_skipped bs) (count_by is_empty bs) moved
       ∙ ap (with_read kind) (as_counted kind bs moved)
 
   -- a block that isn't needed
-  pub tally_skipped : (kind : Kind) (bs : List Place) (b : Place) (moved : ℕ) → 0 < size_at edges c b → need b ≡ false → tally_of kind edges c need (bs ++ b ∷ []) moved ≡ with_skipped (tally_of kind edges c need bs moved)
+  pub tally_skipped : (kind : Kind) (bs : List Place) (b : Place) (moved : ℕ) → 0 < size b → need b ≡ false → tally_of kind size need (bs ++ b ∷ []) moved ≡ with_skipped (tally_of kind size need bs moved)
   tally_skipped kind bs b moved some is =
-      let there = some_edges (size_at edges c b) some in
-      tally_is kind (bs ++ b ∷ []) moved (length (reads edges c need bs)) (count_by is_skipped bs + 1) (count_by is_empty bs)
+      let there = some_edges (size b) some in
+      tally_is kind (bs ++ b ∷ []) moved (length (reads size need bs)) (count_by is_skipped bs + 1) (count_by is_empty bs)
       (read_same bs b (ap₂ (λ (x : Bool) (y : Bool). x && y) there is))
       (counted_more is_skipped bs b true (ap₂ (λ (x : Bool) (y : Bool). x && not y) there is))
-      (counted_same is_empty bs b (ne_eqb (size_at edges c b) 0 (λ none. omega arith)))
-      ∙ one_skipped_more kind (length (reads edges c need bs)) (count_by is_skipped bs) (count_by is_empty bs) moved
+      (counted_same is_empty bs b (ne_eqb (size b) 0 (λ none. omega arith)))
+      ∙ one_skipped_more kind (length (reads size need bs)) (count_by is_skipped bs) (count_by is_empty bs) moved
       ∙ ap with_skipped (as_counted kind bs moved)
 
   -- a block without edges
-  pub tally_empty : (kind : Kind) (bs : List Place) (b : Place) (moved : ℕ) → size_at edges c b ≡ 0 → tally_of kind edges c need (bs ++ b ∷ []) moved ≡ with_empty (tally_of kind edges c need bs moved)
+  pub tally_empty : (kind : Kind) (bs : List Place) (b : Place) (moved : ℕ) → size b ≡ 0 → tally_of kind size need (bs ++ b ∷ []) moved ≡ with_empty (tally_of kind size need bs moved)
   tally_empty kind bs b moved none =
-      let gone = no_edges (size_at edges c b) none in
-      tally_is kind (bs ++ b ∷ []) moved (length (reads edges c need bs)) (count_by is_skipped bs) (count_by is_empty bs + 1)
+      let gone = no_edges (size b) none in
+      tally_is kind (bs ++ b ∷ []) moved (length (reads size need bs)) (count_by is_skipped bs) (count_by is_empty bs + 1)
       (read_same bs b (ap (λ (x : Bool). x && need b) gone))
       (counted_same is_skipped bs b (ap (λ (x : Bool). x && not (need b)) gone))
-      (counted_more is_empty bs b true (eq-eqb (size_at edges c b) 0 none))
-      ∙ one_empty_more kind (length (reads edges c need bs)) (count_by is_skipped bs) (count_by is_empty bs) moved
+      (counted_more is_empty bs b true (eq-eqb (size b) 0 none))
+      ∙ one_empty_more kind (length (reads size need bs)) (count_by is_skipped bs) (count_by is_empty bs) moved
       ∙ ap with_empty (as_counted kind bs moved)
 
   -- more values that moved
-  pub tally_moved : (kind : Kind) (bs : List Place) (moved more : ℕ) → record (tally_of kind edges c need bs moved) { moved = (tally_of kind edges c need bs moved).moved + more } ≡ tally_of kind edges c need bs (moved + more)
+  pub tally_moved : (kind : Kind) (bs : List Place) (moved more : ℕ) → record (tally_of kind size need bs moved) { moved = (tally_of kind size need bs moved).moved + more } ≡ tally_of kind size need bs (moved + more)
   tally_moved Full bs moved more = refl
   tally_moved Fed bs moved more = refl
+
+  -- an iteration went through one block more
+  gone_more : (kind : Kind) (bs : List Place) (b : Place) (begun mid after n : ℕ) (old new : Counts) → new.moved ≡ old.moved → new ≡ tally_of kind size need (bs ++ b ∷ []) old.moved → bytes_of size need (b ∷ []) ≡ n → RoseBy mid after n
+      → HasGone kind size need bs begun mid old → HasGone kind size need (bs ++ b ∷ []) begun after new
+  gone_more kind bs b begun mid after n old new still counted bytes rose gone = record {
+    counted = counted ∙ ap (tally_of kind size need (bs ++ b ∷ [])) (sym still);
+    taken = rose_whole begun mid after (bytes_of size need bs) n (bytes_of size need (bs ++ b ∷ [])) (bytes_both bs (b ∷ []) ∙ ap (λ (k : ℕ). bytes_of size need bs + k) bytes) gone.taken rose;
+  }
+
+  pub gone_read : (kind : Kind) (bs : List Place) (b : Place) (begun mid after : ℕ) (old new : Counts) → 0 < size b → need b ≡ true → new ≡ with_read kind old → new.moved ≡ old.moved → RoseBy mid after (12 * size b)
+      → HasGone kind size need bs begun mid old → HasGone kind size need (bs ++ b ∷ []) begun after new
+  gone_read kind bs b begun mid after old new some is counted still rose gone =
+      gone_more kind bs b begun mid after (12 * size b) old new still (counted ∙ ap (with_read kind) gone.counted ∙ sym (tally_read kind bs b old.moved some is)) (bytes_read b some is) rose gone
+
+  pub gone_skipped : (kind : Kind) (bs : List Place) (b : Place) (begun mid : ℕ) (old new : Counts) → 0 < size b → need b ≡ false → new ≡ with_skipped old
+      → HasGone kind size need bs begun mid old → HasGone kind size need (bs ++ b ∷ []) begun mid new
+  gone_skipped kind bs b begun mid old new some is counted gone =
+      gone_more kind bs b begun mid mid 0 old new (ap (λ (k : Counts). k.moved) counted) (counted ∙ ap with_skipped gone.counted ∙ sym (tally_skipped kind bs b old.moved some is)) (bytes_skipped b is) (λ low. omega arith) gone
+
+  pub gone_empty : (kind : Kind) (bs : List Place) (b : Place) (begun mid : ℕ) (old new : Counts) → size b ≡ 0 → new ≡ with_empty old
+      → HasGone kind size need bs begun mid old → HasGone kind size need (bs ++ b ∷ []) begun mid new
+  gone_empty kind bs b begun mid old new none counted gone =
+      gone_more kind bs b begun mid mid 0 old new (ap (λ (k : Counts). k.moved) counted) (counted ∙ ap with_empty gone.counted ∙ sym (tally_empty kind bs b old.moved none)) (bytes_empty b none) (λ low. omega arith) gone
+
+  -- through none yet
+  pub gone_none : (kind : Kind) (begun : ℕ) (counts : Counts) → counts ≡ record { primary = 0; secondary = 0; skipped = 0; empty = 0; moved = 0 } → HasGone kind size need [] begun begun counts
+  gone_none kind begun counts none = record { counted = none ∙ as_none kind ∙ ap (tally_of kind size need []) (sym (ap (λ (k : Counts). k.moved) none)); taken = λ low. omega arith }
+    where
+      as_none : (kind : Kind) → ◌≡◌ {A = Counts} (record { primary = 0; secondary = 0; skipped = 0; empty = 0; moved = 0 }) (tally_of kind size need [] 0)
+      as_none Full = refl
+      as_none Fed = refl
+
+  -- as many more values moved
+  pub gone_moved : (kind : Kind) (bs : List Place) (begun after more : ℕ) (old new : Counts) → new ≡ record old { moved = old.moved + more } → HasGone kind size need bs begun after old → HasGone kind size need bs begun after new
+  gone_moved kind bs begun after more old new added gone = record {
+    counted = added ∙ ap (λ (k : Counts). record k { moved = k.moved + more }) gone.counted ∙ tally_moved kind bs old.moved more
+        ∙ ap (tally_of kind size need bs) (sym (ap (λ (k : Counts). k.moved) added));
+    taken = gone.taken;
+  }
+
+  -- the same blocks
+  pub gone_as : (kind : Kind) (bs cs : List Place) (begun after : ℕ) (counts : Counts) → bs ≡ cs → HasGone kind size need bs begun after counts → HasGone kind size need cs begun after counts
+  gone_as kind bs cs begun after counts same gone = subst (λ (l : List Place). HasGone kind size need l begun after counts) same gone

@@ -14,18 +14,24 @@ use Rattle.lumos_report.specs.declared.records.Ending.{Ending}
 use Rattle.lumos_report.specs.declared.records.Why.{Why}
 use Rattle.lumos_report.specs.declared.records.Why.TheVariants.{Still, Limit}
 use Rattle.lumos_depot.specs.Steps.{RoseBy}
-use Rattle.early_engine.specs.Engines.{EngineState, IsSameRun, IsStanding}
+use Rattle.grid_format.specs.Tables.{BlockCounts}
+use Rattle.early_engine.specs.Engines.{EngineState, IsSameRun, IsStanding, cut_in}
+use Rattle.early_engine.specs.Gone.{HasPassed, IsTallied}
 use Rattle.early_engine.specs.Passes.{primary_bytes, primary_taken, secondary_bytes, secondary_taken}
 use Rattle.early_engine.specs.Report.{closing_line, end_line, finished, first_lines, later_lines, turn_lines, turn_text}
+use Rattle.early_engine.specs.Reported.{IsReported}
 use Rattle.early_engine.specs.Runs.{RunComes}
-use Rattle.early_engine.specs.Starts.{StartComes}
-use Rattle.early_engine.specs.Turns.{ending_by_why, HasTurned, TurnComes}
+use Rattle.early_engine.specs.Starts.{IsFromOutside, StartComes}
+use Rattle.early_engine.specs.Turns.{ending_by_why, HasTurned, RunShows, SomeShows, TurnComes}
 use Rattle.early_engine.specs.declared.options.Mode.{Mode}
 use Rattle.early_engine.specs.declared.options.RunFault.{RunFault}
 use Rattle.early_engine.specs.declared.options.RunFault.TheVariants.{Depot, Out, Range, Damaged}
 use Rattle.early_engine.specs.declared.options.RunOptions.{RunOptions}
 use Rattle.early_engine.specs.declared.options.Show.{Show}
+use Rattle.early_engine.specs.declared.options.Turn.{Turn}
 use Rattle.early_engine.specs.declared.options.Turn.TheVariants.{Going, Ended}
+use Rattle.early_engine.proofs.PassedLemmas.{tallied}
+use Rattle.early_engine.proofs.ReportLemmas.{reported_as}
 use Rattle.early_engine.proofs.Repeats.{texts, texts_cut, texts_from, texts_more}
 use Rattle.early_engine.proofs.TakenLemmas.{rose_first}
 use Rattle.early_engine.proofs.TurnLemmas.{closing_elsewhere, closing_here, closing_next, reaches}
@@ -113,12 +119,13 @@ pub record Key (G : Type 0) : Type 0 where
   pub program : G
   pub options : RunOptions
   pub info : GridInfo
+  pub table : BlockCounts
 
 abbrev pub key_of : {G V S : Type 0} → EngineState G V S → Key G
-key_of w = record { program = w.program; options = w.options; info = w.info }
+key_of w = record { program = w.program; options = w.options; info = w.info; table = w.table }
 
 pub same_key : {G V S : Type 0} (a b : EngineState G V S) → IsSameRun a b → key_of b ≡ key_of a
-same_key a b same = λ i. record { program = same.program i; options = same.options i; info = same.info i }
+same_key a b same = λ i. record { program = same.program i; options = same.options i; info = same.info i; table = same.table i }
 
 pub same_run : {G V S : Type 0} (a b d : EngineState G V S) → IsSameRun a b → IsSameRun b d → IsSameRun a d
 same_run a b d first second = record {
@@ -130,6 +137,33 @@ same_run a b d first second = record {
 
 pub same_self : {G V S : Type 0} (a : EngineState G V S) → IsSameRun a a
 same_self a = record { program = refl; options = refl; info = refl; table = refl }
+
+module _ {G V S : Type 0} (model : G → Program V S) (a w : EngineState G V S) (same : IsSameRun a w) where
+  -- an iteration of a run was reported with the counts of all its blocks
+  pub turn_tallied : (items : List V) (are : List Bool) (before after : ℕ) (old new : Option (List ℕ)) (turn : Turn)
+      → IsReported (model w.program) w.options.show w.options.mode w.options.iterations w.info.vertices (λ t. HasPassed w.options.mode w.options.iterations w.table w.active are t before after) (w.finished + 1) items old new turn
+      → IsReported (model a.program) a.options.show a.options.mode a.options.iterations a.info.vertices (IsTallied a.options.mode a.table) (w.finished + 1) items old new turn
+  turn_tallied items are before after old new turn made =
+      subst (λ (k : Key G). IsReported (model k.program) k.options.show k.options.mode k.options.iterations k.info.vertices (IsTallied k.options.mode k.table) (w.finished + 1) items old new turn) (same_key a w same)
+      (reported_as (model w.program) w.options.show w.options.mode w.options.iterations w.info.vertices (IsTallied w.options.mode w.table) (λ t. HasPassed w.options.mode w.options.iterations w.table w.active are t before after) (w.finished + 1) items old new turn
+      (λ counts passed. tallied w.options.mode w.options.iterations (w.finished + 1) w.table w.active are before after counts passed) made)
+
+  -- a fault of an iteration is one of some iteration of the run
+  pub turn_shows : (ValueIn : V → Type 0) (SumIn : S → Type 0) (fault : RunFault) → w.finished < a.options.iterations → RunShows ValueIn SumIn (model w.program) w.options.mode (cut_in w.info) w.table (w.finished + 1) fault
+      → SomeShows ValueIn SumIn (model a.program) a.options.mode a.options.iterations (cut_in a.info) a.table fault
+  turn_shows ValueIn SumIn fault low shown = record {
+    iteration = w.finished + 1;
+    some = omega arith;
+    few = omega arith;
+    shown = subst (λ (k : Key G). RunShows ValueIn SumIn (model k.program) k.options.mode (cut_in k.info) k.table (w.finished + 1) fault) (same_key a w same) shown;
+  }
+
+-- a fault of the beginning shows nothing more
+pub outside_shows : {V S : Type 0} (ValueIn : V → Type 0) (SumIn : S → Type 0) (p : Program V S) (mode : Mode) (limit : ℕ) (cut : Cut) (table : BlockCounts) (fault : RunFault) → 0 < limit → IsFromOutside fault → SomeShows ValueIn SumIn p mode limit cut table fault
+outside_shows ValueIn SumIn p mode limit cut table Depot some outside = record { iteration = 1; some = omega arith; few = omega arith; shown = tt }
+outside_shows ValueIn SumIn p mode limit cut table Out some outside = record { iteration = 1; some = omega arith; few = omega arith; shown = tt }
+outside_shows ValueIn SumIn p mode limit cut table (Range t v) some outside = absurd outside
+outside_shows ValueIn SumIn p mode limit cut table (Damaged kind place found) some outside = absurd outside
 
 module _ {G V S : Type 0} (model : G → Program V S) (edges : List Edge) where
   abbrev pub lines_of : Key G → ℕ → List ℕ

@@ -1,5 +1,5 @@
 -- The bytes that the iterations of a run take of Primary and Secondary.
-use Rattle.std.proofs.Common.{◌≡◌, ◌≢◌, ℕ, ◌+◌, List, Option, refl, ap, ◌∙◌, arith, add-one}
+use Rattle.std.proofs.Common.{◌≡◌, ◌≢◌, ◌≤◌, ℕ, ◌+◌, List, Option, refl, ap, ◌∙◌, subst, arith, add-one}
 use Rattle.std.specs.Prelude.{sum_by}
 use Rattle.std.specs.List.{range_with_len}
 use Rattle.std.proofs.lemmas.List.Sums.{sum_by_push}
@@ -10,8 +10,9 @@ use Rattle.partition.proofs.BucketLemmas.{range_more}
 use Rattle.lumos_report.specs.declared.records.Kind.{Kind}
 use Rattle.lumos_report.specs.declared.records.Kind.TheVariants.{Full, Fed}
 use Rattle.lumos_depot.specs.Steps.{Reads, RoseBy}
-use Rattle.early_engine.specs.Passes.{file_of, of_primary, of_secondary}
+use Rattle.early_engine.specs.Passes.{file_of, kind_of, of_primary, of_secondary}
 use Rattle.early_engine.specs.Runs.{Streams}
+use Rattle.early_engine.specs.declared.options.Mode.{Mode}
 
 primary_apart : Primary ≢ Secondary
 primary_apart e = cc
@@ -54,35 +55,39 @@ rose_more f t next before mid after at first second low =
     omega arith
 
 module _ {D : Type 0} (h : D → FileKind → Option (List ℕ)) (t s : D → FileKind → ℕ) (f : D → ℕ) (a : D → Option (List ℕ)) where
-  pub streams_none : (x : D) → Streams h t s f a x x
-  streams_none x = record { attached = refl; contents = λ kind. refl; taken = λ kind blocks low infos. refl; stored = λ kind. refl; later = omega arith }
+  pub streams_none : (mode : Mode) (limit : ℕ) (x : D) → Streams h t s f a mode limit x x
+  streams_none mode limit x = record { attached = refl; contents = λ kind. refl; taken = λ kind infos blocks. refl; stored = λ kind. refl; later = omega arith }
 
-  pub streams_then : (x y z : D) → Streams h t s f a x y → Streams h t s f a y z → Streams h t s f a x z
-  streams_then x y z first second = record {
+  pub streams_then : (mode : Mode) (limit : ℕ) (x y z : D) → Streams h t s f a mode limit x y → Streams h t s f a mode limit y z → Streams h t s f a mode limit x z
+  streams_then mode limit x y z first second = record {
     attached = second.attached ∙ first.attached;
     contents = λ kind. second.contents kind ∙ first.contents kind;
-    taken = λ kind blocks low infos. second.taken kind blocks low infos ∙ first.taken kind blocks low infos;
+    taken = λ kind infos blocks. second.taken kind infos blocks ∙ first.taken kind infos blocks;
     stored = λ kind. second.stored kind ∙ first.stored kind;
     later = let l = first.later in let m = second.later in omega arith;
   }
 
   -- one of the files was read
-  streams_of : (from : FileKind) (x y : D) → ((kind : FileKind) → kind ≢ Primary → kind ≢ Secondary → kind ≢ Info → kind ≢ from) → Reads h t s f a from x y → Streams h t s f a x y
-  streams_of from x y other reads = record {
+  streams_of : (mode : Mode) (limit : ℕ) (from : FileKind) (x y : D) → ((kind : FileKind) → kind ≢ Info → ((u : ℕ) → 1 ≤ u → u ≤ limit → kind ≢ file_of (kind_of mode u)) → kind ≢ from) → Reads h t s f a from x y → Streams h t s f a mode limit x y
+  streams_of mode limit from x y other reads = record {
     attached = reads.attached;
     contents = reads.contents;
-    taken = λ kind blocks low infos. reads.taken kind (other kind blocks low infos);
+    taken = λ kind infos blocks. reads.taken kind (other kind infos blocks);
     stored = reads.stored;
     later = reads.later;
   }
 
-  pub streams_infos : (x y : D) → Reads h t s f a Info x y → Streams h t s f a x y
-  streams_infos x y reads = streams_of Info x y (λ kind blocks low infos. infos) reads
+  pub streams_infos : (mode : Mode) (limit : ℕ) (x y : D) → Reads h t s f a Info x y → Streams h t s f a mode limit x y
+  streams_infos mode limit x y reads = streams_of mode limit Info x y (λ kind infos blocks. infos) reads
 
-  -- an iteration reads one of them, and not Info
-  pub streams_blocks : (kind : Kind) (x y : D) → Reads h t s f a (file_of kind) x y → Streams h t s f a x y
-  streams_blocks Full x y reads = streams_of Primary x y (λ kind blocks low infos. blocks) reads
-  streams_blocks Fed x y reads = streams_of Secondary x y (λ kind blocks low infos. low) reads
+  -- an iteration reads the file of its kind, and not Info
+  pub streams_blocks : (mode : Mode) (limit u : ℕ) (x y : D) → 1 ≤ u → u ≤ limit → Reads h t s f a (file_of (kind_of mode u)) x y → Streams h t s f a mode limit x y
+  streams_blocks mode limit u x y some few reads = streams_of mode limit (file_of (kind_of mode u)) x y (λ kind infos blocks. blocks u some few) reads
+
+  -- one iteration more
+  pub streams_more : (mode m : Mode) (limit u : ℕ) (x y z : D) → m ≡ mode → 1 ≤ u → u ≤ limit → Streams h t s f a mode limit x y → Reads h t s f a (file_of (kind_of m u)) y z → Streams h t s f a mode limit x z
+  streams_more mode m limit u x y z same some few first reads =
+      streams_then mode limit x y z first (streams_blocks mode limit u y z some few (subst (λ (k : Mode). Reads h t s f a (file_of (kind_of k u)) y z) same reads))
 
   pub infos_stay : (kind : Kind) (x y : D) → Reads h t s f a (file_of kind) x y → t y Info ≡ t x Info
   infos_stay kind x y reads = reads.taken Info (infos_apart kind)

@@ -11,9 +11,10 @@ use Rattle.lumos_report.specs.declared.records.Kind.{Kind}
 use Rattle.lumos_report.specs.declared.records.Kind.TheVariants.{Full, Fed}
 use Rattle.value_files.specs.declared.fault.FileFault.{FileFault}
 use Rattle.value_files.specs.declared.fault.FileFault.TheVariants.{Depot, Damaged}
-use Rattle.column_stream.specs.Records.{IsStray}
+use Rattle.column_stream.specs.Records.{IsDamage}
 use Rattle.column_stream.specs.declared.records.Ends.{Ends}
 use Rattle.early_engine.specs.Passes.{file_of}
+use Rattle.early_engine.specs.Steps.{GoesThrough}
 
 -- A depot tells the files of the grid of these edges, and the table is that of its blocks.
 pub record IsOnGrid (edges : List Edge) (cut : Cut) (table : BlockCounts) (told : FileKind → Option (List ℕ)) : Type 0 where
@@ -22,13 +23,14 @@ pub record IsOnGrid (edges : List Edge) (cut : Cut) (table : BlockCounts) (told 
   pub files : Holds told (grid edges cut.vertices cut.parts)
   pub counts : table ≡ grid_table edges cut.vertices cut.parts
 
--- A table has a number of edges for each block of a cut, and none has more of them than the room.
+-- A table has a number of edges for each block of a cut, and the room is for those of the longest one, and no more.
 pub record IsLaid (cut : Cut) (table : BlockCounts) (room : ℕ) : Type 0 where
   pub parts : table.parts ≡ cut.parts
   pub vertices : cut.vertices ≤ 268435456
   pub blocks : length table.counts ≡ cut.parts * cut.parts
   pub few : sum table.counts ≤ 2147483648
   pub longest : (i j : ℕ) → i < cut.parts → j < cut.parts → count_at table i j ≤ room
+  pub least : (bound : ℕ) → ((i j : ℕ) → i < cut.parts → j < cut.parts → count_at table i j ≤ bound) → room ≤ bound
 
 -- the ranges of the ends of a block's edges
 abbrev pub ends_of : Cut → ℕ → ℕ → Ends
@@ -48,21 +50,23 @@ bytes_in Fed table = 12 * low_edges table table.parts
 abbrev pub HasBlocks : BlockCounts → (FileKind → Option (List ℕ)) → Type 0
 HasBlocks table told = (kind : Kind) → IfSome (told (file_of kind)) (λ file. bytes_in kind table ≤ length file)
 
--- A word of some block's records, at its place in the file from which iterations of some kind read, is no vertex of the
--- part in which it has to lie.
-pub record IsStrayWord (cut : Cut) (table : BlockCounts) (file : FileKind) (place found : ℕ) : Type 0 where
-  pub kind : Kind
+-- A fault shows a word of the records of block (i,j), at its place in the file from which iterations of a kind read: it is
+-- no vertex of the part in which it has to lie.
+abbrev pub IsOfBlock : Kind → Cut → BlockCounts → ℕ → ℕ → FileFault → Type 0
+IsOfBlock kind cut table i j fault = IsDamage (file_of kind) (ends_of cut i j) (place_in kind table i j) (count_at table i j) fault
+
+-- It is a fault of a block that an iteration of a kind goes through.
+pub record IsOfPass (kind : Kind) (cut : Cut) (table : BlockCounts) (fault : FileFault) : Type 0 where
   pub row : ℕ
   pub column : ℕ
-  pub file_is : file ≡ file_of kind
   pub row_in : row < cut.parts
   pub column_in : column < cut.parts
-  pub stray : IsStray (ends_of cut row column) (place_in kind table row column) (count_at table row column) place found
+  pub through : GoesThrough kind row column
+  pub shown : IsOfBlock kind cut table row column fault
 
--- a fault that shows such a word
-abbrev pub ShowsStray : Cut → BlockCounts → FileFault → Type 0
-ShowsStray cut table Depot = ⊤
-ShowsStray cut table (Damaged file place found) = IsStrayWord cut table file place found
+-- a word is no vertex of its part: one of a block that an iteration of a kind goes through
+abbrev pub IsStrayWord : Kind → Cut → BlockCounts → FileKind → ℕ → ℕ → Type 0
+IsStrayWord kind cut table file place found = IsOfPass kind cut table (Damaged file place found)
 
 -- the depot failed, and no record was damaged
 abbrev pub IsIntact : FileFault → Type 0

@@ -1,6 +1,7 @@
 pub mod Core
 pub mod Early
 pub mod Engines
+pub mod Gone
 pub mod Grids
 pub mod Making
 pub mod Opens

@@ -1,5 +1,5 @@
 -- What an iteration makes of the values before it.
-use Rattle.std.specs.Prelude.{◌≡◌, ⊤, ℕ, suc, Bool, true, List, Some, None, find}
+use Rattle.std.specs.Prelude.{◌≡◌, ◌<◌, ℕ, suc, Bool, true, List, Some, None, find}
 use Rattle.std.specs.List.{range_with_len}
 use Rattle.lumos_base.specs.declared.records.Edge.{Edge}
 use Rattle.lumos_law.specs.Program.{Program}
@@ -7,8 +7,9 @@ use Rattle.lumos_law.specs.Sync.{is_over, moved_count}
 use Rattle.partition.specs.Parts.{Cut}
 use Rattle.grid_format.specs.Tables.{BlockCounts}
 use Rattle.io_account.specs.declared.Counts.{Counts}
+use Rattle.lumos_report.specs.declared.records.Kind.{Kind}
 use Rattle.early_engine.specs.Early.{IsKept}
-use Rattle.early_engine.specs.Grids.{IsIntact, ShowsStray}
+use Rattle.early_engine.specs.Grids.{IsIntact, IsOfPass}
 use Rattle.early_engine.specs.Passes.{counts_in}
 use Rattle.early_engine.specs.declared.iteration.Stop.{Stop}
 use Rattle.early_engine.specs.declared.iteration.Stop.TheVariants.{File, Over}
@@ -26,11 +27,6 @@ module _ {V S : Type 0} (p : Program V S) where
   IsUnmade edges cut t (File fault) = IsIntact fault
   IsUnmade edges cut t (Over vertex) = find (is_over p edges t) (range_with_len 0 cut.vertices) ≡ Some vertex.0
 
--- a record that stops an iteration, where one does, is damaged
-abbrev pub StopShows : Cut → BlockCounts → Stop → Type 0
-StopShows cut table (File fault) = ShowsStray cut table fault
-StopShows cut table (Over vertex) = ⊤
-
 -- A vertex is over by some value and some sum in range.
 pub record IsOver {V S : Type 0} (ValueIn : V → Type 0) (SumIn : S → Type 0) (p : Program V S) (v : ℕ) : Type 0 where
   pub value : V
@@ -39,7 +35,7 @@ pub record IsOver {V S : Type 0} (ValueIn : V → Type 0) (SumIn : S → Type 0)
   pub sum_in : SumIn sum
   pub over : p.over v value sum ≡ true
 
--- the vertex for which an iteration stops, where it does, is over
-abbrev pub StopIsOver : {V S : Type 0} → (V → Type 0) → (S → Type 0) → Program V S → Stop → Type 0
-StopIsOver ValueIn SumIn p (File fault) = ⊤
-StopIsOver ValueIn SumIn p (Over vertex) = IsOver ValueIn SumIn p vertex.0
+-- An iteration of a kind stops at a block that it goes through, or for a vertex that is over.
+abbrev pub StopShows : {V S : Type 0} → (V → Type 0) → (S → Type 0) → Program V S → Kind → Cut → BlockCounts → Stop → Type 0
+StopShows ValueIn SumIn p kind cut table (File fault) = IsOfPass kind cut table fault
+StopShows ValueIn SumIn p kind cut table (Over vertex) = (vertex.0 < cut.vertices) × IsOver ValueIn SumIn p vertex.0

@@ -18,6 +18,6 @@ fault_opened table.NoMemory = NoMemory
 -- fault shows one. No budget is too small.
 abbrev pub OpenShows : GridInfo → Option (List ℕ) → OpenFault → Type 0
 OpenShows info told (BudgetTooSmall need given) = ⊥
-OpenShows info told (Damaged file place found) = (file ≡ Meta) × IsWrongCount info.edges place found × (told ≡ None)
+OpenShows info told (Damaged file place found) = (file ≡ Meta) × IsWrongCount info place found × (told ≡ None)
 OpenShows info told Depot = ⊤
 OpenShows info told NoMemory = ⊤

@@ -59,13 +59,13 @@ passes kind p = places_below kind p p
 abbrev pub size_at : List Edge → ℕ → Place → ℕ
 size_at edges c b = length (block edges c b.row b.column)
 
--- the blocks that it reads: each that has edges and is needed
-abbrev pub reads : List Edge → ℕ → (Place → Bool) → List Place → List Place
-reads edges c need bs = filter (λ b. nat_lt 0 (size_at edges c b) && need b) bs
+-- the blocks that it reads, where block b has `size b` edges: each that has edges and is needed
+abbrev pub reads : (Place → ℕ) → (Place → Bool) → List Place → List Place
+reads size need bs = filter (λ b. nat_lt 0 (size b) && need b) bs
 
 -- how many bytes these take: twelve for each edge
-abbrev pub bytes_of : List Edge → ℕ → (Place → Bool) → List Place → ℕ
-bytes_of edges c need bs = sum_by (λ b. 12 * size_at edges c b) (reads edges c need bs)
+abbrev pub bytes_of : (Place → ℕ) → (Place → Bool) → List Place → ℕ
+bytes_of size need bs = sum_by (λ b. 12 * size b) (reads size need bs)
 
 -- a number that counts for one layout alone: that from which iterations of a kind read
 abbrev pub of_primary : Kind → ℕ → ℕ
@@ -78,12 +78,12 @@ of_secondary Fed k = k
 
 -- what it counts where so many values moved in it: the blocks that it read, those with edges that aren't needed, and those
 -- without edges
-abbrev pub tally_of : Kind → List Edge → ℕ → (Place → Bool) → List Place → ℕ → Counts
-tally_of kind edges c need bs moved = record {
-  primary = of_primary kind (length (reads edges c need bs));
-  secondary = of_secondary kind (length (reads edges c need bs));
-  skipped = count_by (λ b. nat_lt 0 (size_at edges c b) && not (need b)) bs;
-  empty = count_by (λ b. size_at edges c b == 0) bs;
+abbrev pub tally_of : Kind → (Place → ℕ) → (Place → Bool) → List Place → ℕ → Counts
+tally_of kind size need bs moved = record {
+  primary = of_primary kind (length (reads size need bs));
+  secondary = of_secondary kind (length (reads size need bs));
+  skipped = count_by (λ b. nat_lt 0 (size b) && not (need b)) bs;
+  empty = count_by (λ b. size b == 0) bs;
   moved = moved;
 }
 
@@ -91,10 +91,14 @@ tally_of kind edges c need bs moved = record {
 abbrev pub Hot : Type 0
 Hot = ℕ → ℕ → Bool
 
--- Iteration t needs a block where its source chunk was hot in the iteration before; or where it feeds ahead, the block lies
+-- An iteration needs a block where its source chunk was hot in the iteration before; or where it feeds ahead, the block lies
 -- above the diagonal, and its source chunk is hot in it.
+abbrev pub need_by : (ℕ → Bool) → (ℕ → Bool) → Bool → Place → Bool
+need_by was is ahead b = was b.row || (ahead && nat_lt b.row b.column && is b.row)
+
+-- the blocks that iteration t needs
 abbrev pub needed : Hot → Bool → ℕ → Place → Bool
-needed hot ahead t b = hot (prior t) b.row || (ahead && nat_lt b.row b.column && hot t b.row)
+needed hot ahead t b = need_by (hot (prior t)) (hot t) ahead b
 
 module _ {V S : Type 0} (p : Program V S) (edges : List Edge) (n parts : ℕ) where
   -- a chunk is hot in iteration t where some vertex of it contributes
@@ -109,11 +113,11 @@ module _ {V S : Type 0} (p : Program V S) (edges : List Edge) (n parts : ℕ) wh
 
     -- what iteration t counts where so many values moved in it
     abbrev pub counts_in : ℕ → ℕ → Counts
-    counts_in t moved = tally_of (kind_of mode t) edges (chunk_size n parts) (needs t) (passes (kind_of mode t) parts) moved
+    counts_in t moved = tally_of (kind_of mode t) (size_at edges (chunk_size n parts)) (needs t) (passes (kind_of mode t) parts) moved
 
     -- how many bytes it takes
     abbrev pub iteration_bytes : ℕ → ℕ
-    iteration_bytes t = bytes_of edges (chunk_size n parts) (needs t) (passes (kind_of mode t) parts)
+    iteration_bytes t = bytes_of (size_at edges (chunk_size n parts)) (needs t) (passes (kind_of mode t) parts)
 
     -- how many of Primary: none in a fed iteration; and of Secondary: none in a full one
     abbrev pub primary_bytes : ℕ → ℕ

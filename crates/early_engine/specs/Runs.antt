@@ -3,10 +3,12 @@ use Rattle.std.specs.Prelude.{◌≡◌, ◌≢◌, ◌≤◌, ℕ, List, Option
 use Rattle.lumos_depot.specs.Files.{Same}
 use Rattle.lumos_depot.specs.Streams.{AppendsFront, after_told}
 use Rattle.lumos_depot.specs.declared.depot.FileKind.{FileKind}
-use Rattle.lumos_depot.specs.declared.depot.FileKind.TheVariants.{Primary, Secondary, Info}
+use Rattle.lumos_depot.specs.declared.depot.FileKind.TheVariants.{Info}
 use Rattle.lumos_law.specs.Sync.{Ending as EndingOf, over_in}
 use Rattle.lumos_report.specs.declared.records.Ending.{Ending}
+use Rattle.early_engine.specs.Passes.{file_of, kind_of}
 use Rattle.early_engine.specs.Turns.{ending_told}
+use Rattle.early_engine.specs.declared.options.Mode.{Mode}
 use Rattle.early_engine.specs.declared.options.RunFault.{RunFault}
 use Rattle.early_engine.specs.declared.options.RunFault.TheVariants.{Depot, Out, Range, Damaged}
 
@@ -19,10 +21,11 @@ RunComes end text old new (Err Out) = AppendsFront old new text
 RunComes end text old new (Err Depot) = AppendsFront old new text
 RunComes end text old new (Err (Damaged kind place found)) = ⊥
 
--- The run read Info, Primary and Secondary: no file and no other count changed, and the count of faults didn't fall.
-pub record Streams {D : Type 0} (h : D → FileKind → Option (List ℕ)) (t s : D → FileKind → ℕ) (f : D → ℕ) (a : D → Option (List ℕ)) (old new : D) : Type 0 where
+-- The run read Info, and the files from which the first `limit` iterations read: no file and no other count changed, and the
+-- count of faults didn't fall. So iterations that are all full leave what is counted of Secondary.
+pub record Streams {D : Type 0} (h : D → FileKind → Option (List ℕ)) (t s : D → FileKind → ℕ) (f : D → ℕ) (a : D → Option (List ℕ)) (mode : Mode) (limit : ℕ) (old new : D) : Type 0 where
   pub attached : a new ≡ a old
   pub contents : Same (h old) (h new)
-  pub taken : (kind : FileKind) → kind ≢ Primary → kind ≢ Secondary → kind ≢ Info → t new kind ≡ t old kind
+  pub taken : (kind : FileKind) → kind ≢ Info → ((iteration : ℕ) → 1 ≤ iteration → iteration ≤ limit → kind ≢ file_of (kind_of mode iteration)) → t new kind ≡ t old kind
   pub stored : Same (s old) (s new)
   pub later : f old ≤ f new

@@ -13,7 +13,7 @@ use Rattle.io_account.specs.declared.Counts.{Counts}
 use Rattle.lumos_report.specs.declared.records.Kind.{Kind}
 use Rattle.lumos_report.specs.declared.records.Kind.TheVariants.{Full, Fed}
 use Rattle.early_engine.specs.Early.{early_sum}
-use Rattle.early_engine.specs.Passes.{Place, is_hot, needed, passes, tally_of}
+use Rattle.early_engine.specs.Passes.{Place, is_hot, needed}
 
 -- an iteration of a kind goes through block (i,j)
 abbrev pub GoesThrough : Kind → ℕ → ℕ → Type 0
@@ -61,11 +61,11 @@ module _ {V S : Type 0} (p : Program V S) where
     pub count : moved ≡ (came_of edges t (first_vertex cut.vertices (chunk_of cut) j)).moved
     pub none : (came_of edges t (first_vertex cut.vertices (chunk_of cut) j)).over ≡ None
 
-  -- Iteration t + 1 is made by one of a kind: the values after it, the early sums of the next one where that was fed too,
-  -- which parts are hot, the counts, and no vertex is over.
-  pub record IsPassed (edges : List Edge) (cut : Cut) (kind : Kind) (ahead : Bool) (t : ℕ) (items : List V) (sums : List S) (flags : List Bool) (counts : Counts) : Type 0 where
+  -- Iteration t + 1 is made: the values after it, the early sums of the next one where that was fed too, which parts are hot,
+  -- how many values moved, and no vertex is over.
+  pub record IsPassed (edges : List Edge) (cut : Cut) (ahead : Bool) (t : ℕ) (items : List V) (sums : List S) (flags : List Bool) (counts : Counts) : Type 0 where
     pub holds : IsChunk (values p edges (suc t)) 0 items
     pub early : ahead ≡ true → IsChunk (early_sum p edges (chunk_of cut) (values p edges (suc t))) 0 sums
     pub active : AreHot edges cut cut.parts (suc t) flags
-    pub counted : counts ≡ tally_of kind edges (chunk_of cut) (needs_by edges cut ahead t) (passes kind cut.parts) (moved_count p edges cut.vertices t)
+    pub moved : counts.moved ≡ moved_count p edges cut.vertices t
     pub none : find (is_over p edges t) (range_with_len 0 cut.vertices) ≡ None

@@ -13,6 +13,7 @@ use Rattle.value_files.specs.declared.fault.FileFault.TheVariants as file
 use Rattle.early_engine.specs.Early.{IsKept}
 use Rattle.early_engine.specs.Grids.{IsStrayWord}
 use Rattle.early_engine.specs.Making.{IsOver}
+use Rattle.early_engine.specs.Passes.{kind_of}
 use Rattle.early_engine.specs.Report.{finished, turn_text}
 use Rattle.early_engine.specs.declared.iteration.Stop.{Stop}
 use Rattle.early_engine.specs.declared.iteration.Stop.TheVariants as stop
@@ -48,19 +49,20 @@ abbrev pub phase_of : Result Turn RunFault → Phase
 phase_of (Ok turn) = phase_after turn
 phase_of (Err fault) = phase.Stopped
 
--- a number that was read and can't stand where it stood, where a fault shows one
-abbrev pub RunShows : Cut → BlockCounts → RunFault → Type 0
-RunShows cut table Depot = ⊤
-RunShows cut table Out = ⊤
-RunShows cut table (Range t v) = ⊤
-RunShows cut table (Damaged kind place found) = IsStrayWord cut table kind place found
+-- What a fault of iteration t shows over every depot: the iteration, and a vertex of the grid that is over; or a word of a
+-- block that this iteration goes through, in the file of its kind, that is no vertex of its part.
+abbrev pub RunShows : {V S : Type 0} → (V → Type 0) → (S → Type 0) → Program V S → Mode → Cut → BlockCounts → ℕ → RunFault → Type 0
+RunShows ValueIn SumIn p mode cut table t Depot = ⊤
+RunShows ValueIn SumIn p mode cut table t Out = ⊤
+RunShows ValueIn SumIn p mode cut table t (Range iteration v) = (iteration ≡ t) × (v < cut.vertices) × IsOver ValueIn SumIn p v
+RunShows ValueIn SumIn p mode cut table t (Damaged kind place found) = IsStrayWord (kind_of mode t) cut table kind place found
 
--- the vertex that a fault carries, where it does, is over
-abbrev pub RunIsOver : {V S : Type 0} → (V → Type 0) → (S → Type 0) → Program V S → RunFault → Type 0
-RunIsOver ValueIn SumIn p Depot = ⊤
-RunIsOver ValueIn SumIn p Out = ⊤
-RunIsOver ValueIn SumIn p (Range t v) = IsOver ValueIn SumIn p v
-RunIsOver ValueIn SumIn p (Damaged kind place found) = ⊤
+-- what a fault of some iteration shows, of the first `limit` of them
+pub record SomeShows {V S : Type 0} (ValueIn : V → Type 0) (SumIn : S → Type 0) (p : Program V S) (mode : Mode) (limit : ℕ) (cut : Cut) (table : BlockCounts) (fault : RunFault) : Type 0 where
+  pub iteration : ℕ
+  pub some : 1 ≤ iteration
+  pub few : iteration ≤ limit
+  pub shown : RunShows ValueIn SumIn p mode cut table iteration fault
 
 module _ {V S : Type 0} (p : Program V S) (show : Show) (mode : Mode) (edges : List Edge) (cut : Cut) (limit t : ℕ) where
   -- how the run ends

@@ -6,7 +6,7 @@ ghost use Rattle.partition.specs.Blocks.{block};
 ghost use Rattle.partition.specs.Parts.{chunk_of, IsInPart};
 ghost use Rattle.grid_format.specs.Tables.{count_at};
 ghost use Rattle.lumos_depot.specs.Steps.{Reads, RoseBy};
-ghost use Rattle.early_engine.specs.Grids.{HasBlocks, IsIntact, IsLaid, IsOnGrid, ShowsStray, place_in};
+ghost use Rattle.early_engine.specs.Grids.{HasBlocks, IsIntact, IsLaid, IsOfBlock, IsOnGrid, place_in};
 ghost use Rattle.early_engine.specs.Passes.{file_of};
 ghost use Rattle.early_engine.specs.Steps.{GoesThrough};
 
@@ -54,7 +54,7 @@ pub(crate) fn load_block<D: Depot>(
     ensures sources { OnOk result (All (λ e. IsInPart layout.now.parts.vertices (chunk_of layout.now.parts) i e.source.0) places.new) }
     ensures targets { OnOk result (All (λ e. IsInPart layout.now.parts.vertices (chunk_of layout.now.parts) j e.target.0) places.new) }
     ensures intact { (edges : List Edge) → IsOnGrid edges layout.now.parts layout.now.table (D.holds depot.old) → IfErr result IsIntact }
-    ensures damaged { IfErr result (ShowsStray layout.now.parts layout.now.table) }
+    ensures damaged { IfErr result (IsOfBlock kind layout.now.parts layout.now.table i j) }
     ensures taken { OnOk result (RoseBy (D.taken depot.old (file_of kind)) (D.taken depot.new (file_of kind)) (12 * length places.old)) }
     ensures reads { Reads D.holds D.taken D.stored D.faults D.attached (file_of kind) depot.old depot.new }
     ensures cause { result ≡ Err FileFault.Depot → Rose (D.faults depot.old) (D.faults depot.new) }

@@ -1,15 +1,16 @@
 // The blocks of a column, one after another.
-ghost use Rattle.std.specs.Prelude.{◌≡◌, ◌≤◌, ◌<◌, ◌+◌, ◌++◌, ◌∷◌, [], ℕ, suc, false, true, min, List, Err, length, IfErr, IsSome, OnOk};
+ghost use Rattle.std.specs.Prelude.{◌≡◌, ◌≤◌, ◌<◌, ◌+◌, ◌++◌, ◌∷◌, [], ℕ, Bool, suc, false, true, min, List, Err, length, IfErr, IsSome, OnOk};
 ghost use Rattle.lumos_base.specs.declared.records.Edge.{Edge};
 ghost use Rattle.lumos_law.specs.Sync.{values, IsChunk};
 ghost use Rattle.lumos_depot.specs.Causes.{Rose};
 ghost use Rattle.lumos_depot.specs.declared.depot.FileKind.{FileKind};
 ghost use Rattle.lumos_report.specs.declared.records.Kind.{Kind};
 ghost use Rattle.partition.specs.Parts.{chunk_of, part_length};
-ghost use Rattle.lumos_depot.specs.Steps.{Reads, RoseBy};
-ghost use Rattle.early_engine.specs.Grids.{HasBlocks, IsIntact, IsLaid, IsOnGrid, ShowsStray};
-ghost use Rattle.early_engine.specs.Passes.{Place, bytes_of, place_at, places, tally_of};
-ghost use Rattle.early_engine.specs.Steps.{AreHot, IsFedTo, IsReady, blocks_in, needs_by};
+ghost use Rattle.lumos_depot.specs.Steps.{Reads};
+ghost use Rattle.early_engine.specs.Gone.{AreOf, HasGone};
+ghost use Rattle.early_engine.specs.Grids.{HasBlocks, IsIntact, IsLaid, IsOfBlock, IsOfPass, IsOnGrid};
+ghost use Rattle.early_engine.specs.Passes.{Place, place_at, places};
+ghost use Rattle.early_engine.specs.Steps.{AreHot, IsFedTo, IsReady, blocks_in};
 
 use crate::feed::{clear_early, clear_sums, feed_ahead, feed_block};
 use crate::layout::Layout;
@@ -58,16 +59,11 @@ fn feed_both<G: VertexProgram, D: Depot>(
         → IsReady (G.model program.now) edges layout.now.parts j t before.now after.now active.now.was_hot active.now.is_hot → ahead ≡ true
         → IsFedTo (G.model program.now) edges layout.now.parts j (min i j) (values (G.model program.now) edges (suc t)) early.old
         → OnOk result (IsFedTo (G.model program.now) edges layout.now.parts j (min (i + 1) j) (values (G.model program.now) edges (suc t)) early.new) }
-    ensures counted { (edges : List Edge) (t : ℕ) (bs : List Place) (moved : ℕ) → IsOnGrid edges layout.now.parts layout.now.table (D.holds depot.old)
-        → IsReady (G.model program.now) edges layout.now.parts j t before.now after.now active.now.was_hot active.now.is_hot
-        → counts.old ≡ tally_of Kind.Full edges (chunk_of layout.now.parts) (needs_by (G.model program.now) edges layout.now.parts ahead t) bs moved
-        → OnOk result (counts.new ≡ tally_of Kind.Full edges (chunk_of layout.now.parts) (needs_by (G.model program.now) edges layout.now.parts ahead t) (bs ++ place_at i j ∷ []) moved) }
-    ensures taken { (edges : List Edge) (t : ℕ) → IsOnGrid edges layout.now.parts layout.now.table (D.holds depot.old)
-        → IsReady (G.model program.now) edges layout.now.parts j t before.now after.now active.now.was_hot active.now.is_hot
-        → OnOk result (RoseBy (D.taken depot.old FileKind.Primary) (D.taken depot.new FileKind.Primary)
-        (bytes_of edges (chunk_of layout.now.parts) (needs_by (G.model program.now) edges layout.now.parts ahead t) (place_at i j ∷ []))) }
+    ensures gone { (size : Place → ℕ) (need : Place → Bool) (bs : List Place) (begun : ℕ) → AreOf layout.now.table active.now.was_hot active.now.is_hot ahead size need i j
+        → HasGone Kind.Full size need bs begun (D.taken depot.old FileKind.Primary) counts.old
+        → OnOk result (HasGone Kind.Full size need (bs ++ place_at i j ∷ []) begun (D.taken depot.new FileKind.Primary) counts.new) }
     ensures intact { (edges : List Edge) → IsOnGrid edges layout.now.parts layout.now.table (D.holds depot.old) → IfErr result IsIntact }
-    ensures damaged { IfErr result (ShowsStray layout.now.parts layout.now.table) }
+    ensures damaged { IfErr result (IsOfBlock Kind.Full layout.now.parts layout.now.table i j) }
     ensures reads { Reads D.holds D.taken D.stored D.faults D.attached FileKind.Primary depot.old depot.new }
     ensures cause { result ≡ Err FileFault.Depot → Rose (D.faults depot.old) (D.faults depot.new) }
 {
@@ -132,16 +128,12 @@ pub(crate) fn feed_full<G: VertexProgram, D: Depot>(
     ensures ahead { (edges : List Edge) (t : ℕ) → IsOnGrid edges layout.now.parts layout.now.table (D.holds depot.old)
         → IsReady (G.model program.now) edges layout.now.parts j t before.now after.now active.now.was_hot active.now.is_hot → ahead ≡ true
         → OnOk result (IsFedTo (G.model program.now) edges layout.now.parts j j (values (G.model program.now) edges (suc t)) early.new) }
-    ensures counted { (edges : List Edge) (t : ℕ) (bs : List Place) (moved : ℕ) → IsOnGrid edges layout.now.parts layout.now.table (D.holds depot.old)
-        → IsReady (G.model program.now) edges layout.now.parts j t before.now after.now active.now.was_hot active.now.is_hot
-        → counts.old ≡ tally_of Kind.Full edges (chunk_of layout.now.parts) (needs_by (G.model program.now) edges layout.now.parts ahead t) bs moved
-        → OnOk result (counts.new ≡ tally_of Kind.Full edges (chunk_of layout.now.parts) (needs_by (G.model program.now) edges layout.now.parts ahead t) (bs ++ places Kind.Full layout.now.parts.parts j) moved) }
-    ensures taken { (edges : List Edge) (t : ℕ) → IsOnGrid edges layout.now.parts layout.now.table (D.holds depot.old)
-        → IsReady (G.model program.now) edges layout.now.parts j t before.now after.now active.now.was_hot active.now.is_hot
-        → OnOk result (RoseBy (D.taken depot.old FileKind.Primary) (D.taken depot.new FileKind.Primary)
-        (bytes_of edges (chunk_of layout.now.parts) (needs_by (G.model program.now) edges layout.now.parts ahead t) (places Kind.Full layout.now.parts.parts j))) }
+    ensures gone { (size : Place → ℕ) (need : Place → Bool) (bs : List Place) (begun : ℕ)
+        → ((i : ℕ) → i < layout.now.parts.parts → AreOf layout.now.table active.now.was_hot active.now.is_hot ahead size need i j)
+        → HasGone Kind.Full size need bs begun (D.taken depot.old FileKind.Primary) counts.old
+        → OnOk result (HasGone Kind.Full size need (bs ++ places Kind.Full layout.now.parts.parts j) begun (D.taken depot.new FileKind.Primary) counts.new) }
     ensures intact { (edges : List Edge) → IsOnGrid edges layout.now.parts layout.now.table (D.holds depot.old) → IfErr result IsIntact }
-    ensures damaged { IfErr result (ShowsStray layout.now.parts layout.now.table) }
+    ensures damaged { IfErr result (IsOfPass Kind.Full layout.now.parts layout.now.table) }
     ensures reads { Reads D.holds D.taken D.stored D.faults D.attached FileKind.Primary depot.old depot.new }
     ensures cause { result ≡ Err FileFault.Depot → Rose (D.faults depot.old) (D.faults depot.new) }
 {
@@ -185,16 +177,12 @@ pub(crate) fn feed_rest<G: VertexProgram, D: Depot>(
         → IsChunk (values (G.model program.now) edges t) 0 before.now → AreHot (G.model program.now) edges layout.now.parts layout.now.parts.parts t active.now.was_hot
         → IsFedTo (G.model program.now) edges layout.now.parts j j (values (G.model program.now) edges t) sums.old
         → OnOk result (IsFedTo (G.model program.now) edges layout.now.parts j layout.now.parts.parts (values (G.model program.now) edges t) sums.new) }
-    ensures counted { (edges : List Edge) (t : ℕ) (bs : List Place) (moved : ℕ) → IsOnGrid edges layout.now.parts layout.now.table (D.holds depot.old)
-        → AreHot (G.model program.now) edges layout.now.parts layout.now.parts.parts t active.now.was_hot
-        → counts.old ≡ tally_of Kind.Fed edges (chunk_of layout.now.parts) (needs_by (G.model program.now) edges layout.now.parts false t) bs moved
-        → OnOk result (counts.new ≡ tally_of Kind.Fed edges (chunk_of layout.now.parts) (needs_by (G.model program.now) edges layout.now.parts false t) (bs ++ places Kind.Fed layout.now.parts.parts j) moved) }
-    ensures taken { (edges : List Edge) (t : ℕ) → IsOnGrid edges layout.now.parts layout.now.table (D.holds depot.old)
-        → AreHot (G.model program.now) edges layout.now.parts layout.now.parts.parts t active.now.was_hot
-        → OnOk result (RoseBy (D.taken depot.old FileKind.Secondary) (D.taken depot.new FileKind.Secondary)
-        (bytes_of edges (chunk_of layout.now.parts) (needs_by (G.model program.now) edges layout.now.parts false t) (places Kind.Fed layout.now.parts.parts j))) }
+    ensures gone { (are : List Bool) (size : Place → ℕ) (need : Place → Bool) (bs : List Place) (begun : ℕ)
+        → ((i : ℕ) → i < layout.now.parts.parts → AreOf layout.now.table active.now.was_hot are false size need i j)
+        → HasGone Kind.Fed size need bs begun (D.taken depot.old FileKind.Secondary) counts.old
+        → OnOk result (HasGone Kind.Fed size need (bs ++ places Kind.Fed layout.now.parts.parts j) begun (D.taken depot.new FileKind.Secondary) counts.new) }
     ensures intact { (edges : List Edge) → IsOnGrid edges layout.now.parts layout.now.table (D.holds depot.old) → IfErr result IsIntact }
-    ensures damaged { IfErr result (ShowsStray layout.now.parts layout.now.table) }
+    ensures damaged { IfErr result (IsOfPass Kind.Fed layout.now.parts layout.now.table) }
     ensures reads { Reads D.holds D.taken D.stored D.faults D.attached FileKind.Secondary depot.old depot.new }
     ensures cause { result ≡ Err FileFault.Depot → Rose (D.faults depot.old) (D.faults depot.new) }
 {

@@ -13,6 +13,7 @@ ghost use Rattle.lumos_depot.specs.Steps.{Reads, RoseBy};
 ghost use Rattle.lumos_base.specs.Records.{IsEdge};
 ghost use Rattle.early_engine.specs.Core.{IsCoreState};
 ghost use Rattle.early_engine.specs.Engines.{IsOpened, IsSameRun, IsStanding, cut_in};
+ghost use Rattle.early_engine.specs.Gone.{HasPassed};
 ghost use Rattle.early_engine.specs.Grids.{HasBlocks};
 ghost use Rattle.early_engine.specs.Opens.{OpenShows};
 ghost use Rattle.early_engine.specs.Passes.{file_of, kind_of, primary_bytes, primary_taken, secondary_bytes, secondary_taken};
@@ -20,7 +21,7 @@ ghost use Rattle.early_engine.specs.Report.{report};
 ghost use Rattle.early_engine.specs.Reported.{IsOpening, IsReport, TurnReports};
 ghost use Rattle.early_engine.specs.Runs.{RunComes, Streams};
 ghost use Rattle.early_engine.specs.Starts.{IsFromOutside, StartComes, phase_begun};
-ghost use Rattle.early_engine.specs.Turns.{RunIsOver, RunShows, TurnComes, phase_after, phase_of};
+ghost use Rattle.early_engine.specs.Turns.{RunShows, SomeShows, TurnComes, phase_after, phase_of};
 
 use crate::begin::{make_start, mark_first};
 use crate::layout::Layout;
@@ -191,7 +192,7 @@ impl<G: VertexProgram> Engine<G> {
         ensures every { length self.new.values ≡ self.old.info.vertices }
         ensures finished { self.new.finished ≡ 0 }
         ensures phase { self.new.phase ≡ phase_begun result }
-        ensures left { self.new.phase ≡ Phase.Going → 0 < self.new.options.iterations }
+        ensures some { 0 < self.new.options.iterations }
         ensures taken { OnOk result (RoseBy (D.taken depot.old FileKind.Info) (D.taken depot.new FileKind.Info) (12 * self.old.info.vertices)) }
         ensures outside { IfErr result IsFromOutside }
         ensures reads { Reads D.holds D.taken D.stored D.faults D.attached FileKind.Info depot.old depot.new }
@@ -240,7 +241,13 @@ impl<G: VertexProgram> Engine<G> {
     /// vertex that is over in it, and comes exactly where there is one; nothing is written of that iteration. `Out` comes
     /// only where the sink's count of faults rose, and leaves a front of the iteration's text; `Depot` comes only where the
     /// depot's rose. `Damaged` never comes over the files of a grid that are told; it carries a word of a block's records
-    /// that names a vertex outside its part. After each fault, and at the end, the engine is stopped.
+    /// that names a vertex outside its part, and the block is one that this iteration goes through, in the file of its kind.
+    /// After each fault, and at the end, the engine is stopped.
+    ///
+    /// Over every depot, also one that tells nothing: where it answers Ok, each block of the iteration was read, skipped or
+    /// empty, by the grid's numbers of edges and by the chunks that were hot before it and are hot after it; twelve bytes were
+    /// taken for each edge of the blocks that were read; and what was written is the line of these counts, the values that
+    /// are kept then, and the last line exactly where the run ended. After a fault other than `Out` nothing was written.
     pub fn turn<D: Depot, O: Sink>(&mut self, depot: &mut D, out: &mut O) -> Result<Turn, RunFault>
         requires attached { IsSome (D.attached depot.old) }
         requires inside { HasBlocks self.old.table (D.holds depot.old) }
@@ -248,7 +255,9 @@ impl<G: VertexProgram> Engine<G> {
         ensures told { (edges : List Edge) → IsStanding (G.model self.old.program) edges (D.holds depot.old) self.old
             → TurnComes (G.model self.old.program) self.old.options.show self.old.options.mode edges (cut_in self.old.info) self.old.options.iterations self.old.finished
             self.new.values self.new.early self.new.active (O.written out.old) (O.written out.new) result }
-        ensures reported { TurnReports (G.model self.old.program) self.old.options.show self.old.options.mode self.old.options.iterations self.old.info.vertices (self.old.finished + 1)
+        ensures reported { TurnReports (G.model self.old.program) self.old.options.show self.old.options.mode self.old.options.iterations self.old.info.vertices
+            (λ t. HasPassed self.old.options.mode self.old.options.iterations self.old.table self.old.active self.new.active t
+            (D.taken depot.old (file_of (kind_of self.old.options.mode (self.old.finished + 1)))) (D.taken depot.new (file_of (kind_of self.old.options.mode (self.old.finished + 1))))) (self.old.finished + 1)
             self.new.values (O.written out.old) (O.written out.new) result }
         ensures stands { (edges : List Edge) → IsStanding (G.model self.old.program) edges (D.holds depot.old) self.old
             → result ≡ Ok Turn.Going → IsStanding (G.model self.old.program) edges (D.holds depot.new) self.new }
@@ -265,8 +274,7 @@ impl<G: VertexProgram> Engine<G> {
         ensures secondary { (edges : List Edge) → IsStanding (G.model self.old.program) edges (D.holds depot.old) self.old
             → OnOk result (RoseBy (D.taken depot.old FileKind.Secondary) (D.taken depot.new FileKind.Secondary)
             (secondary_bytes (G.model self.old.program) edges self.old.info.vertices self.old.info.parts self.old.options.mode self.old.options.iterations (self.old.finished + 1))) }
-        ensures over { IfErr result (RunIsOver G.Value.is_in_range G.Sum.is_in_range (G.model self.old.program)) }
-        ensures damaged { IfErr result (RunShows (cut_in self.old.info) self.old.table) }
+        ensures shows { IfErr result (RunShows G.Value.is_in_range G.Sum.is_in_range (G.model self.old.program) self.old.options.mode (cut_in self.old.info) self.old.table (self.old.finished + 1)) }
         ensures reads { Reads D.holds D.taken D.stored D.faults D.attached (file_of (kind_of self.old.options.mode (self.old.finished + 1))) depot.old depot.new }
         ensures depot { result ≡ Err RunFault.Depot → Rose (D.faults depot.old) (D.faults depot.new) }
         ensures later { O.faults out.old ≤ O.faults out.new }
@@ -303,7 +311,10 @@ impl<G: VertexProgram> Engine<G> {
     /// Ok tells how the run ended. `Range` carries the iteration and the least vertex that is over in it, and comes exactly
     /// where the run ends so; the report then ends after the last finished iteration. `Out` and `Depot` come only where the
     /// counts of faults of the sink and of the depot rose, and leave a front of the report. `Damaged` never comes over the
-    /// files of a grid that are told; it carries a word of a block's records that names a vertex outside its part.
+    /// files of a grid that are told; it carries a word of a block's records that names a vertex outside its part, and the
+    /// block is one that some iteration goes through, in the file of its kind. Over every depot, also one that tells nothing,
+    /// Ok says that a whole report stands on `out`: of each iteration up to the last the counts of all its blocks, and some
+    /// values, and the line of the ending that is answered. What is counted of Secondary stays where all iterations are full.
     pub fn run<D: Depot, O: Sink>(self, depot: &mut D, out: &mut O) -> Result<Ending, RunFault>
         requires attached { IsSome (D.attached depot.old) }
         requires info { IfSome (D.holds depot.old FileKind.Info) (λ file. 12 * self.info.vertices ≤ length file) }
@@ -313,7 +324,7 @@ impl<G: VertexProgram> Engine<G> {
             → RunComes (ending (G.model self.program) edges self.info.vertices self.options.iterations)
             (report (G.model self.program) (G.name_text self.program) self.options.show self.options.mode edges self.info.vertices self.info.parts self.options.iterations)
             (O.written out.old) (O.written out.new) result }
-        ensures reported { IfOk result (IsReport (G.model self.program) (G.name_text self.program) self.options.show self.options.mode self.options.iterations self.info
+        ensures reported { IfOk result (IsReport (G.model self.program) (G.name_text self.program) self.options.show self.options.mode self.options.iterations self.info self.table
             (O.written out.old) (O.written out.new)) }
         ensures primary { (edges : List Edge) → IsOpened edges (D.holds depot.old) self
             → IfOk result (λ end. RoseBy (D.taken depot.old FileKind.Primary) (D.taken depot.new FileKind.Primary)
@@ -322,9 +333,8 @@ impl<G: VertexProgram> Engine<G> {
             → IfOk result (λ end. RoseBy (D.taken depot.old FileKind.Secondary) (D.taken depot.new FileKind.Secondary)
             (secondary_taken (G.model self.program) edges self.info.vertices self.info.parts self.options.mode self.options.iterations end.iterations)) }
         ensures info_taken { OnOk result (RoseBy (D.taken depot.old FileKind.Info) (D.taken depot.new FileKind.Info) (12 * self.info.vertices)) }
-        ensures over { IfErr result (RunIsOver G.Value.is_in_range G.Sum.is_in_range (G.model self.program)) }
-        ensures damaged { IfErr result (RunShows (cut_in self.info) self.table) }
-        ensures streams { Streams D.holds D.taken D.stored D.faults D.attached depot.old depot.new }
+        ensures shows { IfErr result (SomeShows G.Value.is_in_range G.Sum.is_in_range (G.model self.program) self.options.mode self.options.iterations (cut_in self.info) self.table) }
+        ensures streams { Streams D.holds D.taken D.stored D.faults D.attached self.options.mode self.options.iterations depot.old depot.new }
         ensures depot { result ≡ Err RunFault.Depot → Rose (D.faults depot.old) (D.faults depot.new) }
         ensures later { O.faults out.old ≤ O.faults out.new }
         ensures out { result ≡ Err RunFault.Out → Rose (O.faults out.old) (O.faults out.new) }

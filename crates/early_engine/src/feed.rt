@@ -6,9 +6,11 @@ ghost use Rattle.lumos_depot.specs.Causes.{Rose};
 ghost use Rattle.flight_core.specs.EdgeList.{IsEdgeList};
 ghost use Rattle.partition.specs.Blocks.{block};
 ghost use Rattle.partition.specs.Parts.{chunk_of, first_vertex, part_length, IsInPart};
-ghost use Rattle.lumos_depot.specs.Steps.{Reads, RoseBy};
-ghost use Rattle.early_engine.specs.Grids.{HasBlocks, IsIntact, IsLaid, IsOnGrid, ShowsStray};
-ghost use Rattle.early_engine.specs.Passes.{Place, bytes_of, file_of, is_hot, place_at, tally_of};
+ghost use Rattle.lumos_depot.specs.Steps.{Reads};
+ghost use Rattle.grid_format.specs.Tables.{count_at};
+ghost use Rattle.early_engine.specs.Gone.{HasGone};
+ghost use Rattle.early_engine.specs.Grids.{HasBlocks, IsIntact, IsLaid, IsOfBlock, IsOnGrid};
+ghost use Rattle.early_engine.specs.Passes.{Place, file_of, is_hot, place_at};
 ghost use Rattle.early_engine.specs.Steps.{GoesThrough, IsFedTo, blocks_in, with_read};
 
 use crate::block::load_block;
@@ -123,16 +125,11 @@ pub(crate) fn feed_block<G: VertexProgram, D: Depot>(
         → IsChunk (values (G.model program.now) edges t) 0 before.now
         → IsFedTo (G.model program.now) edges layout.now.parts j i (values (G.model program.now) edges t) sums.old
         → OnOk result (IsFedTo (G.model program.now) edges layout.now.parts j (i + 1) (values (G.model program.now) edges t) sums.new) }
-    ensures counted { (edges : List Edge) (need : Place → Bool) (bs : List Place) (moved : ℕ)
-        → IsOnGrid edges layout.now.parts layout.now.table (D.holds depot.old) → needed ≡ need (place_at i j)
-        → counts.old ≡ tally_of kind edges (chunk_of layout.now.parts) need bs moved
-        → OnOk result (counts.new ≡ tally_of kind edges (chunk_of layout.now.parts) need (bs ++ place_at i j ∷ []) moved) }
-    ensures taken { (edges : List Edge) (need : Place → Bool)
-        → IsOnGrid edges layout.now.parts layout.now.table (D.holds depot.old) → needed ≡ need (place_at i j)
-        → OnOk result (RoseBy (D.taken depot.old (file_of kind)) (D.taken depot.new (file_of kind))
-        (bytes_of edges (chunk_of layout.now.parts) need (place_at i j ∷ []))) }
+    ensures gone { (size : Place → ℕ) (need : Place → Bool) (bs : List Place) (before : ℕ) → size (place_at i j) ≡ count_at layout.now.table i j → needed ≡ need (place_at i j)
+        → HasGone kind size need bs before (D.taken depot.old (file_of kind)) counts.old
+        → OnOk result (HasGone kind size need (bs ++ place_at i j ∷ []) before (D.taken depot.new (file_of kind)) counts.new) }
     ensures intact { (edges : List Edge) → IsOnGrid edges layout.now.parts layout.now.table (D.holds depot.old) → IfErr result IsIntact }
-    ensures damaged { IfErr result (ShowsStray layout.now.parts layout.now.table) }
+    ensures damaged { IfErr result (IsOfBlock kind layout.now.parts layout.now.table i j) }
     ensures reads { Reads D.holds D.taken D.stored D.faults D.attached (file_of kind) depot.old depot.new }
     ensures cause { result ≡ Err FileFault.Depot → Rose (D.faults depot.old) (D.faults depot.new) }
 {

@@ -1,18 +1,19 @@
 // One iteration over the blocks of a grid in its files, column by column.
-ghost use Rattle.std.specs.Prelude.{◌≡◌, ◌≤◌, ◌<◌, ◌+◌, ℕ, false, List, Err, length, vec_len, IfErr, IsSome, MatchResult, OnOk};
+ghost use Rattle.std.specs.Prelude.{◌≡◌, ◌≤◌, ◌<◌, ◌+◌, ℕ, Bool, false, List, Err, length, vec_len, IfErr, IfOk, IsSome, MatchResult};
 ghost use Rattle.lumos_base.specs.declared.records.Edge.{Edge};
 ghost use Rattle.lumos_depot.specs.Causes.{Rose};
 ghost use Rattle.lumos_depot.specs.declared.depot.FileKind.{FileKind};
 ghost use Rattle.lumos_law.specs.Sync.{values, IsChunk};
 ghost use Rattle.lumos_report.specs.declared.records.Kind.{Kind};
 ghost use Rattle.partition.specs.Parts.{chunk_of};
-ghost use Rattle.lumos_depot.specs.Steps.{Reads, RoseBy};
+ghost use Rattle.lumos_depot.specs.Steps.{Reads};
 ghost use Rattle.early_engine.specs.Early.{IsKept, early_sum};
 ghost use Rattle.early_engine.specs.Engines.{IsRoomy};
 ghost use Rattle.early_engine.specs.Grids.{HasBlocks, IsLaid, IsOnGrid};
-ghost use Rattle.early_engine.specs.Making.{IsMade, IsUnmade, StopIsOver, StopShows};
-ghost use Rattle.early_engine.specs.Passes.{bytes_of, file_of, iteration_bytes, kind_of, passes};
-ghost use Rattle.early_engine.specs.Steps.{AreHot, IsPassed, needs_by};
+ghost use Rattle.early_engine.specs.Gone.{AreOf, HasGone};
+ghost use Rattle.early_engine.specs.Making.{IsMade, IsUnmade, StopShows};
+ghost use Rattle.early_engine.specs.Passes.{Place, feeds_ahead, file_of, kind_of, passes};
+ghost use Rattle.early_engine.specs.Steps.{AreHot, IsPassed};
 
 use crate::column::{feed_full, feed_rest};
 use crate::kind::{feeds_ahead, kind_of};
@@ -64,14 +65,12 @@ fn full_iteration<G: VertexProgram, D: Depot>(
     ensures was_hot { active.new.was_hot ≡ active.old.was_hot }
     ensures made { (edges : List Edge) (t : ℕ) → IsOnGrid edges layout.now.parts layout.now.table (D.holds depot.old)
         → IsChunk (values (G.model program.now) edges t) 0 before.now → AreHot (G.model program.now) edges layout.now.parts layout.now.parts.parts t active.old.was_hot
-        → MatchResult result (IsPassed (G.model program.now) edges layout.now.parts Kind.Full ahead t after.new early.new active.new.is_hot)
+        → MatchResult result (IsPassed (G.model program.now) edges layout.now.parts ahead t after.new early.new active.new.is_hot)
         (IsUnmade (G.model program.now) edges layout.now.parts t) }
-    ensures taken { (edges : List Edge) (t : ℕ) → IsOnGrid edges layout.now.parts layout.now.table (D.holds depot.old)
-        → IsChunk (values (G.model program.now) edges t) 0 before.now → AreHot (G.model program.now) edges layout.now.parts layout.now.parts.parts t active.old.was_hot
-        → OnOk result (RoseBy (D.taken depot.old FileKind.Primary) (D.taken depot.new FileKind.Primary)
-        (bytes_of edges (chunk_of layout.now.parts) (needs_by (G.model program.now) edges layout.now.parts ahead t) (passes Kind.Full layout.now.parts.parts))) }
-    ensures over { IfErr result (StopIsOver G.Value.is_in_range G.Sum.is_in_range (G.model program.now)) }
-    ensures damaged { IfErr result (StopShows layout.now.parts layout.now.table) }
+    ensures gone { (size : Place → ℕ) (need : Place → Bool)
+        → ((i j : ℕ) → i < layout.now.parts.parts → j < layout.now.parts.parts → AreOf layout.now.table active.old.was_hot active.new.is_hot ahead size need i j)
+        → IfOk result (HasGone Kind.Full size need (passes Kind.Full layout.now.parts.parts) (D.taken depot.old FileKind.Primary) (D.taken depot.new FileKind.Primary)) }
+    ensures stop { IfErr result (StopShows G.Value.is_in_range G.Sum.is_in_range (G.model program.now) Kind.Full layout.now.parts layout.now.table) }
     ensures reads { Reads D.holds D.taken D.stored D.faults D.attached FileKind.Primary depot.old depot.new }
     ensures cause { result ≡ Err (Stop.File FileFault.Depot) → Rose (D.faults depot.old) (D.faults depot.new) }
 {
@@ -134,15 +133,12 @@ fn fed_iteration<G: VertexProgram, D: Depot>(
     ensures made { (edges : List Edge) (t : ℕ) → IsOnGrid edges layout.now.parts layout.now.table (D.holds depot.old)
         → IsChunk (values (G.model program.now) edges t) 0 before.now → AreHot (G.model program.now) edges layout.now.parts layout.now.parts.parts t active.old.was_hot
         → IsChunk (early_sum (G.model program.now) edges (chunk_of layout.now.parts) (values (G.model program.now) edges t)) 0 early.old
-        → MatchResult result (IsPassed (G.model program.now) edges layout.now.parts Kind.Fed false t after.new early.new active.new.is_hot)
+        → MatchResult result (IsPassed (G.model program.now) edges layout.now.parts false t after.new early.new active.new.is_hot)
         (IsUnmade (G.model program.now) edges layout.now.parts t) }
-    ensures taken { (edges : List Edge) (t : ℕ) → IsOnGrid edges layout.now.parts layout.now.table (D.holds depot.old)
-        → IsChunk (values (G.model program.now) edges t) 0 before.now → AreHot (G.model program.now) edges layout.now.parts layout.now.parts.parts t active.old.was_hot
-        → IsChunk (early_sum (G.model program.now) edges (chunk_of layout.now.parts) (values (G.model program.now) edges t)) 0 early.old
-        → OnOk result (RoseBy (D.taken depot.old FileKind.Secondary) (D.taken depot.new FileKind.Secondary)
-        (bytes_of edges (chunk_of layout.now.parts) (needs_by (G.model program.now) edges layout.now.parts false t) (passes Kind.Fed layout.now.parts.parts))) }
-    ensures over { IfErr result (StopIsOver G.Value.is_in_range G.Sum.is_in_range (G.model program.now)) }
-    ensures damaged { IfErr result (StopShows layout.now.parts layout.now.table) }
+    ensures gone { (are : List Bool) (size : Place → ℕ) (need : Place → Bool)
+        → ((i j : ℕ) → i < layout.now.parts.parts → j < layout.now.parts.parts → AreOf layout.now.table active.old.was_hot are false size need i j)
+        → IfOk result (HasGone Kind.Fed size need (passes Kind.Fed layout.now.parts.parts) (D.taken depot.old FileKind.Secondary) (D.taken depot.new FileKind.Secondary)) }
+    ensures stop { IfErr result (StopShows G.Value.is_in_range G.Sum.is_in_range (G.model program.now) Kind.Fed layout.now.parts layout.now.table) }
     ensures reads { Reads D.holds D.taken D.stored D.faults D.attached FileKind.Secondary depot.old depot.new }
     ensures cause { result ≡ Err (Stop.File FileFault.Depot) → Rose (D.faults depot.old) (D.faults depot.new) }
 {
@@ -197,12 +193,11 @@ pub(crate) fn iterate<G: VertexProgram, D: Depot>(
         → IsKept (G.model program.now) edges layout.now.parts options.mode options.iterations done room.old.before.items room.old.early.items room.old.active.was_hot
         → MatchResult result (λ counts. IsMade (G.model program.now) edges layout.now.parts options.mode options.iterations done room.new.after.items room.new.early.items room.new.active.is_hot counts)
         (IsUnmade (G.model program.now) edges layout.now.parts done) }
-    ensures taken { (edges : List Edge) (done : ℕ) → IsOnGrid edges layout.now.parts layout.now.table (D.holds depot.old) → t ≡ done + 1
-        → IsKept (G.model program.now) edges layout.now.parts options.mode options.iterations done room.old.before.items room.old.early.items room.old.active.was_hot
-        → OnOk result (RoseBy (D.taken depot.old (file_of (kind_of options.mode t))) (D.taken depot.new (file_of (kind_of options.mode t)))
-        (iteration_bytes (G.model program.now) edges layout.now.parts.vertices layout.now.parts.parts options.mode options.iterations t)) }
-    ensures over { IfErr result (StopIsOver G.Value.is_in_range G.Sum.is_in_range (G.model program.now)) }
-    ensures damaged { IfErr result (StopShows layout.now.parts layout.now.table) }
+    ensures gone { (size : Place → ℕ) (need : Place → Bool)
+        → ((i j : ℕ) → i < layout.now.parts.parts → j < layout.now.parts.parts → AreOf layout.now.table room.old.active.was_hot room.new.active.is_hot (feeds_ahead options.mode options.iterations t) size need i j)
+        → IfOk result (HasGone (kind_of options.mode t) size need (passes (kind_of options.mode t) layout.now.parts.parts)
+        (D.taken depot.old (file_of (kind_of options.mode t))) (D.taken depot.new (file_of (kind_of options.mode t)))) }
+    ensures stop { IfErr result (StopShows G.Value.is_in_range G.Sum.is_in_range (G.model program.now) (kind_of options.mode t) layout.now.parts layout.now.table) }
     ensures reads { Reads D.holds D.taken D.stored D.faults D.attached (file_of (kind_of options.mode t)) depot.old depot.new }
     ensures cause { result ≡ Err (Stop.File FileFault.Depot) → Rose (D.faults depot.old) (D.faults depot.new) }
 {

@@ -114,7 +114,8 @@ fn make_lists<G: VertexProgram>(
 fn longest_in(layout: &Layout, j: u32) -> u64
     requires column { j < layout.now.parts.parts }
     requires parts { layout.now.table.parts ≡ layout.now.parts.parts }
-    ensures { (i : ℕ) → i < layout.now.parts.parts → count_at layout.now.table i j ≤ result }
+    ensures bound { (i : ℕ) → i < layout.now.parts.parts → count_at layout.now.table i j ≤ result }
+    ensures least { (room : ℕ) → ((i : ℕ) → i < layout.now.parts.parts → count_at layout.now.table i j ≤ room) → result ≤ room }
 {
     let mut most = 0;
     for i in 0..layout.parts.parts() {
@@ -126,7 +127,8 @@ fn longest_in(layout: &Layout, j: u32) -> u64
 // The most edges that a block has.
 fn longest(layout: &Layout) -> u64
     requires parts { layout.now.table.parts ≡ layout.now.parts.parts }
-    ensures { (i j : ℕ) → i < layout.now.parts.parts → j < layout.now.parts.parts → count_at layout.now.table i j ≤ result }
+    ensures bound { (i j : ℕ) → i < layout.now.parts.parts → j < layout.now.parts.parts → count_at layout.now.table i j ≤ result }
+    ensures least { (room : ℕ) → ((i j : ℕ) → i < layout.now.parts.parts → j < layout.now.parts.parts → count_at layout.now.table i j ≤ room) → result ≤ room }
 {
     let mut most = 0;
     for j in 0..layout.parts.parts() {

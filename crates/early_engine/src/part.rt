@@ -58,7 +58,7 @@ pub(crate) fn make_part<G: VertexProgram>(
     ensures hot { (edges : List Edge) (t : ℕ) → IsChunk (values (G.model program.now) edges t) 0 before.now
         → IsChunk (sum_at (G.model program.now) edges (values (G.model program.now) edges t)) (first_vertex layout.now.parts.vertices (chunk_of layout.now.parts) j) sums.now
         → IfOk result (λ end. end.hot ≡ is_hot (G.model program.now) edges layout.now.parts.vertices layout.now.parts.parts (suc t) j) }
-    ensures over { IfErr result (λ vertex. IsOver G.Value.is_in_range G.Sum.is_in_range (G.model program.now) vertex.0) }
+    ensures over { IfErr result (λ vertex. (vertex.0 < layout.now.parts.vertices) × IsOver G.Value.is_in_range G.Sum.is_in_range (G.model program.now) vertex.0) }
 {
     let range = layout.parts.range_of(j);
     let first = range.first as usize;

@@ -6,12 +6,13 @@ ghost use Rattle.lumos_depot.specs.declared.depot.FileKind.{FileKind};
 ghost use Rattle.lumos_law.specs.Sync.{ending};
 ghost use Rattle.lumos_depot.specs.Steps.{RoseBy};
 ghost use Rattle.early_engine.specs.Engines.{IsStanding, cut_in};
+ghost use Rattle.early_engine.specs.Gone.{IsTallied};
 ghost use Rattle.early_engine.specs.Grids.{HasBlocks};
 ghost use Rattle.early_engine.specs.Passes.{primary_taken, secondary_taken};
 ghost use Rattle.early_engine.specs.Report.{later_lines};
 ghost use Rattle.early_engine.specs.Reported.{AreEnded};
 ghost use Rattle.early_engine.specs.Runs.{RunComes, Streams};
-ghost use Rattle.early_engine.specs.Turns.{RunIsOver, RunShows};
+ghost use Rattle.early_engine.specs.Turns.{SomeShows};
 ghost use Rattle.early_engine.specs.declared.options.Phase.{Phase};
 
 use crate::engine::Engine;
@@ -37,7 +38,7 @@ pub(crate) fn run_turns<G: VertexProgram, D: Depot, O: Sink>(
         → RunComes (ending (G.model engine.old.program) edges engine.old.info.vertices engine.old.options.iterations)
         (later_lines (G.model engine.old.program) engine.old.options.show engine.old.options.mode edges engine.old.info.vertices engine.old.info.parts engine.old.options.iterations)
         (O.written out.old) (O.written out.new) result }
-    ensures reported { IfOk result (AreEnded (G.model engine.old.program) engine.old.options.show engine.old.options.mode engine.old.options.iterations engine.old.info.vertices
+    ensures reported { IfOk result (AreEnded (G.model engine.old.program) engine.old.options.show engine.old.options.mode engine.old.options.iterations engine.old.info.vertices (IsTallied engine.old.options.mode engine.old.table)
         (O.written out.old) (O.written out.new)) }
     ensures primary { (edges : List Edge) → IsStanding (G.model engine.old.program) edges (D.holds depot.old) engine.old
         → IfOk result (λ end. RoseBy (D.taken depot.old FileKind.Primary) (D.taken depot.new FileKind.Primary)
@@ -46,9 +47,8 @@ pub(crate) fn run_turns<G: VertexProgram, D: Depot, O: Sink>(
         → IfOk result (λ end. RoseBy (D.taken depot.old FileKind.Secondary) (D.taken depot.new FileKind.Secondary)
         (secondary_taken (G.model engine.old.program) edges engine.old.info.vertices engine.old.info.parts engine.old.options.mode engine.old.options.iterations end.iterations)) }
     ensures infos { D.taken depot.new FileKind.Info ≡ D.taken depot.old FileKind.Info }
-    ensures over { IfErr result (RunIsOver G.Value.is_in_range G.Sum.is_in_range (G.model engine.old.program)) }
-    ensures damaged { IfErr result (RunShows (cut_in engine.old.info) engine.old.table) }
-    ensures streams { Streams D.holds D.taken D.stored D.faults D.attached depot.old depot.new }
+    ensures shows { IfErr result (SomeShows G.Value.is_in_range G.Sum.is_in_range (G.model engine.old.program) engine.old.options.mode engine.old.options.iterations (cut_in engine.old.info) engine.old.table) }
+    ensures streams { Streams D.holds D.taken D.stored D.faults D.attached engine.old.options.mode engine.old.options.iterations depot.old depot.new }
     ensures depot { result ≡ Err RunFault.Depot → Rose (D.faults depot.old) (D.faults depot.new) }
     ensures later { O.faults out.old ≤ O.faults out.new }
     ensures out { result ≡ Err RunFault.Out → Rose (O.faults out.old) (O.faults out.new) }

@@ -1,5 +1,5 @@
 // An iteration that is made and reported.
-ghost use Rattle.std.specs.Prelude.{◌≡◌, ◌≤◌, ◌<◌, ◌+◌, ◌-◌, ◌≢◌, ℕ, List, Ok, Err, vec_len, IfErr, IsSome, MatchResult, OnOk};
+ghost use Rattle.std.specs.Prelude.{◌≡◌, ◌≤◌, ◌<◌, ◌+◌, ◌-◌, ◌≢◌, ℕ, Bool, List, Ok, Err, vec_len, IfErr, IfOk, IsSome, MatchResult, OnOk};
 ghost use Rattle.lumos_base.specs.declared.records.Edge.{Edge};
 ghost use Rattle.lumos_depot.specs.Causes.{Rose};
 ghost use Rattle.lumos_depot.specs.declared.depot.FileKind.{FileKind};
@@ -8,10 +8,11 @@ ghost use Rattle.lumos_depot.specs.Steps.{Reads, RoseBy};
 ghost use Rattle.early_engine.specs.Early.{IsKept};
 ghost use Rattle.early_engine.specs.Engines.{IsRoomy};
 ghost use Rattle.early_engine.specs.Grids.{HasBlocks, IsOnGrid};
-ghost use Rattle.early_engine.specs.Making.{IsMade, IsUnmade, StopIsOver, StopShows};
-ghost use Rattle.early_engine.specs.Passes.{file_of, kind_of, primary_bytes, secondary_bytes};
+ghost use Rattle.early_engine.specs.Gone.{AreOf, HasGone, HasPassed};
+ghost use Rattle.early_engine.specs.Making.{IsMade, IsUnmade, StopShows};
+ghost use Rattle.early_engine.specs.Passes.{Place, feeds_ahead, file_of, kind_of, passes, primary_bytes, secondary_bytes};
 ghost use Rattle.early_engine.specs.Reported.{TurnReports};
-ghost use Rattle.early_engine.specs.Turns.{RunIsOver, RunShows, TurnComes, fault_of};
+ghost use Rattle.early_engine.specs.Turns.{RunShows, TurnComes, fault_of};
 
 use crate::iteration::{Stop, iterate};
 use crate::kind::kind_of;
@@ -44,16 +45,11 @@ fn advance<G: VertexProgram, D: Depot>(
         → t ≡ done + 1 → IsKept (G.model program.now) edges layout.now.parts options.mode options.iterations done room.old.before.items room.old.early.items room.old.active.was_hot
         → MatchResult result (λ counts. IsMade (G.model program.now) edges layout.now.parts options.mode options.iterations done room.new.before.items room.new.early.items room.new.active.was_hot counts)
         (IsUnmade (G.model program.now) edges layout.now.parts done) }
-    ensures primary { (edges : List Edge) (done : ℕ) → IsOnGrid edges layout.now.parts layout.now.table (D.holds depot.old)
-        → t ≡ done + 1 → IsKept (G.model program.now) edges layout.now.parts options.mode options.iterations done room.old.before.items room.old.early.items room.old.active.was_hot
-        → OnOk result (RoseBy (D.taken depot.old FileKind.Primary) (D.taken depot.new FileKind.Primary)
-        (primary_bytes (G.model program.now) edges layout.now.parts.vertices layout.now.parts.parts options.mode options.iterations t)) }
-    ensures secondary { (edges : List Edge) (done : ℕ) → IsOnGrid edges layout.now.parts layout.now.table (D.holds depot.old)
-        → t ≡ done + 1 → IsKept (G.model program.now) edges layout.now.parts options.mode options.iterations done room.old.before.items room.old.early.items room.old.active.was_hot
-        → OnOk result (RoseBy (D.taken depot.old FileKind.Secondary) (D.taken depot.new FileKind.Secondary)
-        (secondary_bytes (G.model program.now) edges layout.now.parts.vertices layout.now.parts.parts options.mode options.iterations t)) }
-    ensures over { IfErr result (StopIsOver G.Value.is_in_range G.Sum.is_in_range (G.model program.now)) }
-    ensures damaged { IfErr result (StopShows layout.now.parts layout.now.table) }
+    ensures gone { (size : Place → ℕ) (need : Place → Bool)
+        → ((i j : ℕ) → i < layout.now.parts.parts → j < layout.now.parts.parts → AreOf layout.now.table room.old.active.was_hot room.new.active.was_hot (feeds_ahead options.mode options.iterations t) size need i j)
+        → IfOk result (HasGone (kind_of options.mode t) size need (passes (kind_of options.mode t) layout.now.parts.parts)
+        (D.taken depot.old (file_of (kind_of options.mode t))) (D.taken depot.new (file_of (kind_of options.mode t)))) }
+    ensures stop { IfErr result (StopShows G.Value.is_in_range G.Sum.is_in_range (G.model program.now) (kind_of options.mode t) layout.now.parts layout.now.table) }
     ensures reads { Reads D.holds D.taken D.stored D.faults D.attached (file_of (kind_of options.mode t)) depot.old depot.new }
     ensures cause { result ≡ Err (Stop.File FileFault.Depot) → Rose (D.faults depot.old) (D.faults depot.new) }
 {
@@ -106,7 +102,9 @@ pub(crate) fn make_turn<G: VertexProgram, D: Depot, O: Sink>(
         ≡ ending_from (G.model program.now) edges layout.now.parts.vertices (options.iterations - done) done
         → TurnComes (G.model program.now) options.show options.mode edges layout.now.parts options.iterations done
         room.new.before.items room.new.early.items room.new.active.was_hot (O.written out.old) (O.written out.new) result }
-    ensures reported { TurnReports (G.model program.now) options.show options.mode options.iterations layout.now.parts.vertices t room.new.before.items (O.written out.old) (O.written out.new) result }
+    ensures reported { TurnReports (G.model program.now) options.show options.mode options.iterations layout.now.parts.vertices
+        (λ u. HasPassed options.mode options.iterations layout.now.table room.old.active.was_hot room.new.active.was_hot u
+        (D.taken depot.old (file_of (kind_of options.mode t))) (D.taken depot.new (file_of (kind_of options.mode t)))) t room.new.before.items (O.written out.old) (O.written out.new) result }
     ensures going { result ≡ Ok Turn.Going → t ≢ options.iterations }
     ensures primary { (edges : List Edge) (done : ℕ) → IsOnGrid edges layout.now.parts layout.now.table (D.holds depot.old)
         → t ≡ done + 1 → IsKept (G.model program.now) edges layout.now.parts options.mode options.iterations done room.old.before.items room.old.early.items room.old.active.was_hot
@@ -116,8 +114,7 @@ pub(crate) fn make_turn<G: VertexProgram, D: Depot, O: Sink>(
         → t ≡ done + 1 → IsKept (G.model program.now) edges layout.now.parts options.mode options.iterations done room.old.before.items room.old.early.items room.old.active.was_hot
         → OnOk result (RoseBy (D.taken depot.old FileKind.Secondary) (D.taken depot.new FileKind.Secondary)
         (secondary_bytes (G.model program.now) edges layout.now.parts.vertices layout.now.parts.parts options.mode options.iterations t)) }
-    ensures over { IfErr result (RunIsOver G.Value.is_in_range G.Sum.is_in_range (G.model program.now)) }
-    ensures damaged { IfErr result (RunShows layout.now.parts layout.now.table) }
+    ensures shows { IfErr result (RunShows G.Value.is_in_range G.Sum.is_in_range (G.model program.now) options.mode layout.now.parts layout.now.table t) }
     ensures reads { Reads D.holds D.taken D.stored D.faults D.attached (file_of (kind_of options.mode t)) depot.old depot.new }
     ensures depot { result ≡ Err RunFault.Depot → Rose (D.faults depot.old) (D.faults depot.new) }
     ensures later { O.faults out.old ≤ O.faults out.new }

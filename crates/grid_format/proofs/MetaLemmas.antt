@@ -79,9 +79,9 @@ counted_all edges counts whole =
 pub sized_same : (kind : FileKind) (want found : ℕ) → found ≡ want → sized kind want found ≡ Ok tt
 sized_same kind want found is = rw (eq-eqb found want is) refl
 
-judged_head : (info : GridInfo) → IsHead info → judged info 0 ≡ Ok info
-judged_head info h =
-    let version : (info.version == 1) ≡ true = eq-eqb info.version 1 h.version in
+judged_head : (info : GridInfo) → info.version ≡ 1 → IsHead info → judged info 0 ≡ Ok info
+judged_head info first h =
+    let version : (info.version == 1) ≡ true = eq-eqb info.version 1 first in
     let none : (info.parts == 0) ≡ false = positive info.parts h.some_parts in
     let few : nat_lt 256 info.parts ≡ false = below 256 info.parts h.few_parts in
     let vertices : nat_lt 268435456 info.vertices ≡ false = below 268435456 info.vertices h.vertices in
@@ -102,8 +102,8 @@ begins_magic : (rest : List ℕ) → starts_with nat_eq (magic ++ rest) magic �
 begins_magic rest = ap (pointwise nat_eq magic) (take_at magic rest (length magic) refl) ∙ magic_same
 
 -- the head that was written is read back
-pub fields_read : (info : GridInfo) (counts : List ℕ) → IsHead info → fields_of (meta_bytes info counts) ≡ Ok info
-fields_read info counts h =
+pub fields_read : (info : GridInfo) (counts : List ℕ) → info.version ≡ 1 → IsHead info → fields_of (meta_bytes info counts) ≡ Ok info
+fields_read info counts first h =
     let a = field 4 info.version in
     let b = field 4 info.parts in
     let d = field 4 info.vertices in
@@ -122,13 +122,13 @@ fields_read info counts h =
     let behind_b = length-field 4 info.parts in
     let behind_d = length-field 4 info.vertices in
     let behind_e = length-field 4 0 in
-    let version : number_at 4 8 meta ≡ info.version = ap (number_at 4 8) regrouped ∙ number_behind 4 8 0 magic r0 length-magic ∙ number_front 4 info.version r1 (omega (arith, h.version)) in
+    let version : number_at 4 8 meta ≡ info.version = ap (number_at 4 8) regrouped ∙ number_behind 4 8 0 magic r0 length-magic ∙ number_front 4 info.version r1 (omega (arith, first)) in
     let parts : number_at 4 12 meta ≡ info.parts = ap (number_at 4 12) regrouped ∙ number_behind 4 8 4 magic r0 length-magic ∙ number_behind 4 4 0 a r1 behind_a ∙ number_front 4 info.parts r2 (omega (arith, h.few_parts)) in
     let vertices : number_at 4 16 meta ≡ info.vertices = ap (number_at 4 16) regrouped ∙ number_behind 4 8 8 magic r0 length-magic ∙ number_behind 4 4 4 a r1 behind_a ∙ number_behind 4 4 0 b r2 behind_b ∙ number_front 4 info.vertices r3 (omega (arith, h.vertices)) in
     let word : number_at 4 20 meta ≡ 0 = ap (number_at 4 20) regrouped ∙ number_behind 4 8 12 magic r0 length-magic ∙ number_behind 4 4 8 a r1 behind_a ∙ number_behind 4 4 4 b r2 behind_b ∙ number_behind 4 4 0 d r3 behind_d ∙ number_front 4 0 r4 (omega arith) in
     let edges : number_at 8 24 meta ≡ info.edges = ap (number_at 8 24) regrouped ∙ number_behind 8 8 16 magic r0 length-magic ∙ number_behind 8 4 12 a r1 behind_a ∙ number_behind 8 4 8 b r2 behind_b ∙ number_behind 8 4 4 d r3 behind_d ∙ number_behind 8 4 0 e r4 behind_e ∙ number_front 8 info.edges (flat_map (field 8) counts) (omega (arith, h.edges)) in
     let head : head_at 8 meta ≡ info = λ i. record { version = version i; parts = parts i; vertices = vertices i; edges = edges i } in
-    rw (begins, long) (ap₂ judged head word ∙ judged_head info h)
+    rw (begins, long) (ap₂ judged head word ∙ judged_head info first h)
   where
     long_enough : (n : ℕ) → 32 ≤ n → nat_lt n 32 ≡ false
     long_enough n k = grind (arith, nat_tests)

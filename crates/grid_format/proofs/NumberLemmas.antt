@@ -158,3 +158,10 @@ added_sum edges place before total (x ∷ xs) h = by_test (λ k. added_sum edges
 pub columns_end : (place p j : ℕ) (meta : List ℕ) → j ≡ p → numbers place (p * p - j * p) meta ≡ []
 columns_end place p j meta is =
     let none : p * p - j * p ≡ 0 = rw is (omega arith) in ap (λ (n : ℕ). numbers place n meta) none
+
+-- count i of column j is one of those of the table
+pub in_square : (p j i : ℕ) → j < p → i < p → j * p + i < p * p
+in_square p j i h k =
+    let next : (j + 1) * p ≡ j * p + p = omega (arith, add-mul j 1 p) in
+    let room : (j + 1) * p ≤ p * p = mul-le (j + 1) p p p (omega arith) (omega arith) in
+    omega (arith, next, room)

@@ -1,5 +1,5 @@
 -- The bytes of Meta: the head of a grid, and behind it the number of edges in each block.
-use Rattle.std.specs.Prelude.{◌≡◌, ◌≤◌, ◌<◌, ℕ, zero, suc, ◌+◌, ◌*◌, List, [], ◌∷◌, ◌++◌, drop, codes}
+use Rattle.std.specs.Prelude.{◌≤◌, ◌<◌, ℕ, zero, suc, ◌+◌, ◌*◌, List, [], ◌∷◌, ◌++◌, drop, codes}
 use Rattle.std.specs.List.{flat_map}
 use Rattle.byteorder.specs.Endian.{little_bytes, little_number}
 use Rattle.grid_format.specs.declared.head.GridInfo.{GridInfo}
@@ -49,7 +49,6 @@ counts_of p meta = numbers 32 (p * p) meta
 
 -- The numbers of a head lie within the limits of a grid.
 pub record IsHead (info : GridInfo) : Type 0 where
-  pub version : info.version ≡ 1
   pub some_parts : 0 < info.parts
   pub few_parts : info.parts ≤ 256
   pub vertices : info.vertices ≤ 268435456

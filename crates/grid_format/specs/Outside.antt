@@ -1,8 +1,10 @@
 -- What a call over a depot may answer and change.
-use Rattle.std.specs.Prelude.{◌≡◌, ◌≢◌, ◌≤◌, ◌<◌, ◌⊎◌, ⊤, ℕ, List, Option, Some, Result, Ok, Err}
+use Rattle.std.specs.Prelude.{◌≡◌, ◌≢◌, ◌≤◌, ◌<◌, ◌⊎◌, ◌*◌, ⊤, ℕ, List, Option, Some, Result, Ok, Err}
 use Rattle.lumos_depot.specs.declared.depot.FileKind.{FileKind}
-use Rattle.lumos_depot.specs.declared.depot.FileKind.TheVariants.{Meta, Primary, Secondary, Info}
+use Rattle.lumos_depot.specs.declared.depot.FileKind.TheVariants.{Meta, Primary, Secondary, Info, Values, Sums, Spool}
 use Rattle.grid_format.specs.Checks.{GridFiles}
+use Rattle.grid_format.specs.Heads.{meta_length}
+use Rattle.grid_format.specs.Tables.{IsCountPlace}
 use Rattle.grid_format.specs.declared.head.GridFault.{GridFault}
 use Rattle.grid_format.specs.declared.head.GridFault.TheVariants.{NotAGrid, WrongVersion, BadLength, BadMeta, Depot}
 
@@ -44,12 +46,24 @@ IsWrongNumber place found =
     ⊎ ((place ≡ 16) × (268435456 < found))
     ⊎ ((place ≡ 20) × (0 < found))
     ⊎ ((place ≡ 24) × (0 < found))
-    ⊎ ((32 ≤ place) × (0 < found))
+    ⊎ (IsCountPlace 65536 place × (0 < found))
 
--- what a fault carries isn't what was wanted
+-- A file of a grid within the limits may have to have so many bytes, and has another number of them; a Meta that is too
+-- short for a head has to have the head's.
+abbrev pub IsWrongLength : FileKind → ℕ → ℕ → Type 0
+IsWrongLength Meta want found =
+    ((want ≡ 32) × (found < 32)) ⊎ ((p : ℕ) × (0 < p) × (p ≤ 256) × (want ≡ meta_length p) × (found ≢ want))
+IsWrongLength Primary want found = (n : ℕ) × (n ≤ 2147483648) × (want ≡ 12 * n) × (found ≢ want)
+IsWrongLength Secondary want found = (n : ℕ) × (n ≤ 2147483648) × (want ≡ 12 * n) × (found ≢ want)
+IsWrongLength Info want found = (n : ℕ) × (n ≤ 268435456) × (want ≡ 12 * n) × (found ≢ want)
+IsWrongLength Values want found = ⊥
+IsWrongLength Sums want found = ⊥
+IsWrongLength Spool want found = ⊥
+
+-- what a fault carries isn't what a grid within the limits has there
 abbrev pub Shows : GridFault → Type 0
 Shows Depot = ⊤
 Shows NotAGrid = ⊤
 Shows (WrongVersion found) = found ≢ 1
-Shows (BadLength file want found) = found ≢ want
+Shows (BadLength file want found) = IsWrongLength file want found
 Shows (BadMeta place found) = IsWrongNumber place found

@@ -1,6 +1,7 @@
 -- The blocks of a grid, by their numbers of edges in column order.
 use Rattle.std.specs.Prelude.{◌≡◌, ◌<◌, ◌≤◌, ◌⊎◌, ⊤, ℕ, ◌+◌, ◌-◌, ◌*◌, List, length, sum, sum_by, take, slice_index}
 use Rattle.std.specs.List.{range_with_len}
+use Rattle.grid_format.specs.declared.head.GridInfo.{GridInfo}
 use Rattle.grid_format.specs.declared.table.TableFault.{TableFault}
 use Rattle.grid_format.specs.declared.table.TableFault.TheVariants.{Depot, Damaged, NoMemory}
 
@@ -66,6 +67,12 @@ IfDamaged Depot fact = ⊤
 IfDamaged (Damaged place found) fact = fact place found
 IfDamaged NoMemory fact = ⊤
 
--- A count that takes the total past the edges isn't 0, nor is a number of edges that the total doesn't reach.
-abbrev pub IsWrongCount : ℕ → ℕ → ℕ → Type 0
-IsWrongCount edges place found = (0 < found) × (((place ≡ 24) × (found ≡ edges)) ⊎ (32 ≤ place))
+-- the place in Meta of one of so many counts
+abbrev pub IsCountPlace : ℕ → ℕ → Type 0
+IsCountPlace blocks place = (k : ℕ) × (k < blocks) × (place ≡ 32 + 8 * k)
+
+-- A count that takes the total past the edges isn't 0, and is that of a block; nor is a number of edges that the total
+-- doesn't reach.
+abbrev pub IsWrongCount : GridInfo → ℕ → ℕ → Type 0
+IsWrongCount info place found =
+    (0 < found) × (((place ≡ 24) × (found ≡ info.edges)) ⊎ IsCountPlace (info.parts * info.parts) place)

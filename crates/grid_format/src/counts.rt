@@ -1,5 +1,5 @@
 // The counts of blocks, added up.
-ghost use Rattle.std.specs.Prelude.{◌≡◌, ◌+◌, ◌-◌, ◌*◌, ◌^◌, ◌≤◌, ◌<◌, length, sum, IfOk, IfErr};
+ghost use Rattle.std.specs.Prelude.{◌≡◌, ◌+◌, ◌-◌, ◌*◌, ◌^◌, ◌≤◌, ◌<◌, ℕ, length, sum, IfOk, IfErr};
 ghost use Rattle.grid_format.specs.Heads.{numbers};
 ghost use Rattle.grid_format.specs.Checks.{added, reached};
 
@@ -24,7 +24,7 @@ pub(crate) fn add_column(
     requires far { place + 8 * parts < 2 ^ 64 }
     requires fits { before ≤ edges }
     ensures fits { IfOk result (λ total. total ≤ edges) }
-    ensures shown { IfErr result (λ mismatch. (place ≤ mismatch.place) × (0 < mismatch.found)) }
+    ensures shown { IfErr result (λ mismatch. (0 < mismatch.found) × ((k : ℕ) × (k < parts) × (mismatch.place ≡ place + 8 * k))) }
     ensures value { result ≡ added edges place before (numbers 0 parts bytes.now) }
 {
     let mut total = before;

@@ -1,11 +1,11 @@
 // The head of a grid.
-ghost use Rattle.std.specs.Prelude.{◌≡◌, ◌+◌, ◌*◌, ◌^◌, ◌<◌, ◌≤◌, ℕ, List, Some, Ok, length, sum, IfOk, IfErr, IsSome, OnOk};
+ghost use Rattle.std.specs.Prelude.{◌≡◌, ◌≢◌, ◌+◌, ◌*◌, ◌^◌, ◌<◌, ◌≤◌, ℕ, List, Some, Ok, length, sum, IfOk, IfErr, IsSome, OnOk};
 ghost use Rattle.lumos_depot.specs.Causes.{Rose};
 ghost use Rattle.lumos_depot.specs.Files.{range_at};
 ghost use Rattle.lumos_depot.specs.declared.depot.FileKind.{FileKind};
 ghost use Rattle.grid_format.specs.Checks.{GridFiles, added, counted, fields_of, files_sized, head_of, in_meta, judged, sized, table_of};
 ghost use Rattle.grid_format.specs.Heads.{IsHead, counts_of, head_at, meta_length, number_at, numbers};
-ghost use Rattle.grid_format.specs.Outside.{DepotOwes, FaultGives, Gives, Holds, Shows};
+ghost use Rattle.grid_format.specs.Outside.{DepotOwes, FaultGives, Gives, Holds, IsWrongLength, Shows};
 ghost use Rattle.lumos_depot.specs.Steps.{Reads};
 ghost use Rattle.grid_format.specs.Tables.{low_edges};
 
@@ -54,6 +54,7 @@ pub enum GridFault {
 // Judges the numbers of a head, and the word between them that has to be 0, in the order of their places.
 fn judge(info: GridInfo, word: u32) -> Result<GridInfo, GridFault>
     ensures value { result ≡ judged info word }
+    ensures version { IfOk result (λ info. info.version ≡ 1) }
     ensures limits { IfOk result IsHead }
     ensures shown { IfErr result Shows }
 {
@@ -93,6 +94,7 @@ fn judge(info: GridInfo, word: u32) -> Result<GridInfo, GridFault>
 fn judge_bytes(bytes: &[u8]) -> Result<GridInfo, GridFault>
     requires { length bytes.now ≡ 24 }
     ensures value { result ≡ judged (head_at 0 bytes.now) (number_at 4 12 bytes.now) }
+    ensures version { IfOk result (λ info. info.version ≡ 1) }
     ensures limits { IfOk result IsHead }
     ensures shown { IfErr result Shows }
 {
@@ -110,6 +112,7 @@ fn read_fields<D: Depot>(depot: &mut D, size: u64) -> Result<GridInfo, GridFault
     requires attached { IsSome (D.attached depot.old) }
     requires size { (meta : List ℕ) → D.holds depot.old FileKind.Meta ≡ Some meta → length meta ≡ size }
     ensures told { (meta : List ℕ) → D.holds depot.old FileKind.Meta ≡ Some meta → Gives result (fields_of meta) }
+    ensures version { IfOk result (λ info. info.version ≡ 1) }
     ensures limits { IfOk result IsHead }
     ensures shown { IfErr result Shows }
     ensures reads { Reads D.holds D.taken D.stored D.faults D.attached FileKind.Meta depot.old depot.new }
@@ -141,7 +144,8 @@ fn read_fields<D: Depot>(depot: &mut D, size: u64) -> Result<GridInfo, GridFault
 
 // A file has so many bytes.
 fn check_size<D: Depot>(depot: &mut D, kind: FileKind, want: u64) -> Result<(), GridFault>
-    requires { IsSome (D.attached depot.old) }
+    requires attached { IsSome (D.attached depot.old) }
+    requires wanted { (found : ℕ) → found ≢ want → IsWrongLength kind want found }
     ensures told { (file : List ℕ) → D.holds depot.old kind ≡ Some file → Gives result (sized kind want (length file)) }
     ensures shown { IfErr result Shows }
     ensures reads { Reads D.holds D.taken D.stored D.faults D.attached FileKind.Meta depot.old depot.new }
@@ -176,30 +180,30 @@ fn check_files<D: Depot>(depot: &mut D, info: GridInfo, low: u64) -> Result<(), 
     check_size(depot, FileKind::Info, 12 * u64::from(info.vertices))
 }
 
-// Reads a column of counts, which stand at a place of Meta, and adds them to a total.
+// Reads a column of counts, behind so many others in Meta, and adds them to a total.
 fn check_column<D: Depot>(
     depot: &mut D,
     edges: u64,
-    place: u64,
+    first: usize,
     before: u64,
     column: &mut [u8],
     parts: usize,
 ) -> Result<u64, GridFault>
     requires attached { IsSome (D.attached depot.old) }
     requires whole { length column.old ≡ 8 * parts }
-    requires far { place + 8 * parts < 2 ^ 64 }
-    requires inside { (meta : List ℕ) → D.holds depot.old FileKind.Meta ≡ Some meta → place + 8 * parts ≤ length meta }
+    requires few { first + parts ≤ 65536 }
+    requires inside { (meta : List ℕ) → D.holds depot.old FileKind.Meta ≡ Some meta → 32 + 8 * first + 8 * parts ≤ length meta }
     requires fits { before ≤ edges }
-    requires place { 32 ≤ place }
     ensures told { (meta : List ℕ) → D.holds depot.old FileKind.Meta ≡ Some meta
-        → Gives result (in_meta (added edges place before (numbers place parts meta))) }
+        → Gives result (in_meta (added edges (32 + 8 * first) before (numbers (32 + 8 * first) parts meta))) }
     ensures fits { IfOk result (λ total. total ≤ edges) }
-    ensures column { OnOk result ((meta : List ℕ) → D.holds depot.old FileKind.Meta ≡ Some meta → column.new ≡ range_at place (8 * parts) meta) }
+    ensures column { OnOk result ((meta : List ℕ) → D.holds depot.old FileKind.Meta ≡ Some meta → column.new ≡ range_at (32 + 8 * first) (8 * parts) meta) }
     ensures total { IfOk result (λ total. total ≡ before + sum (numbers 0 parts column.new)) }
     ensures shown { IfErr result Shows }
     ensures reads { Reads D.holds D.taken D.stored D.faults D.attached FileKind.Meta depot.old depot.new }
     ensures cause { DepotOwes result (Rose (D.faults depot.old) (D.faults depot.new)) }
 {
+    let place = 32 + 8 * first as u64;
     let Ok(()) = fill(depot, place, column) else {
         return Err(GridFault::Depot);
     };
@@ -236,8 +240,7 @@ fn check_columns<D: Depot>(
     let mut total = 0;
     let mut low = 0;
     for j in 0..parts {
-        let place = 32 + 8 * (j * parts) as u64;
-        total = check_column(depot, info.edges, place, total, column, parts)?;
+        total = check_column(depot, info.edges, j * parts, total, column, parts)?;
         low += total_from(j, column, parts);
     }
     match reach(info.edges, total) {
@@ -258,10 +261,12 @@ fn check_columns<D: Depot>(
 /// and 8 for each block, or another file not its length. `WrongVersion`: the version isn't 1. `BadMeta`: the number at
 /// a place of Meta is outside its range, or the counts pass the edges there, or (at 24) are fewer than the edges.
 /// `Depot` comes only where the depot's count of faults rose, at the place of the checks where it failed. Over a depot
-/// that tells nothing a fault shows by its numbers that what was read is no grid's.
+/// that tells nothing a fault shows by its numbers that what was read is no grid's: it names a place that a grid within
+/// the limits has, or one of the four files with a length that it may have there.
 pub fn read_head<D: Depot>(depot: &mut D) -> Result<GridInfo, GridFault>
     requires { IsSome (D.attached depot.old) }
     ensures told { (files : GridFiles) → Holds (D.holds depot.old) files → Gives result (head_of files) }
+    ensures version { IfOk result (λ info. info.version ≡ 1) }
     ensures limits { IfOk result IsHead }
     ensures shown { IfErr result Shows }
     ensures reads { Reads D.holds D.taken D.stored D.faults D.attached FileKind.Meta depot.old depot.new }

@@ -23,7 +23,7 @@ pub enum TableFault {
     Depot,
     /// The counts that were read don't add up to the edges, though they did when the head was read.
     Damaged { place: u64, found: u64 },
-    /// Memory ran out.
+    /// Want of memory.
     NoMemory,
 }
 
@@ -117,12 +117,12 @@ fn place_of(parts: u32, i: u32, j: u32) -> usize
     j as usize * parts as usize + i as usize
 }
 
-// Reads a column of counts, which stand at a place of Meta, puts them behind those that are there, and adds them to a
+// Reads a column of counts, behind so many others in Meta, puts them behind those that are there, and adds them to a
 // total.
 fn load_column<D: Depot>(
     depot: &mut D,
     edges: u64,
-    place: u64,
+    first: usize,
     before: u64,
     column: &mut [u8],
     parts: usize,
@@ -130,24 +130,25 @@ fn load_column<D: Depot>(
 ) -> Result<u64, TableFault>
     requires attached { IsSome (D.attached depot.old) }
     requires whole { length column.old ≡ 8 * parts }
-    requires far { place + 8 * parts < 2 ^ 64 }
-    requires inside { (meta : List ℕ) → D.holds depot.old FileKind.Meta ≡ Some meta → place + 8 * parts ≤ length meta }
+    requires few { first + parts ≤ 65536 }
+    requires inside { (meta : List ℕ) → D.holds depot.old FileKind.Meta ≡ Some meta → 32 + 8 * first + 8 * parts ≤ length meta }
     requires fits { before ≤ edges }
-    requires place { 32 ≤ place }
     requires room { vec_len counts.old + parts ≤ vec_capacity counts.old }
     ensures told { IfOk result (λ total. (meta : List ℕ) → D.holds depot.old FileKind.Meta ≡ Some meta
-        → (added edges place before (numbers place parts meta) ≡ Ok total) × (counts.new.items ≡ counts.old.items ++ numbers place parts meta)) }
+        → (added edges (32 + 8 * first) before (numbers (32 + 8 * first) parts meta) ≡ Ok total)
+        × (counts.new.items ≡ counts.old.items ++ numbers (32 + 8 * first) parts meta)) }
     ensures len { OnOk result (vec_len counts.new ≡ vec_len counts.old + parts) }
     ensures room { OnOk result (vec_capacity counts.old ≤ vec_capacity counts.new) }
     ensures sum { IfOk result (λ total. sum counts.new.items + before ≡ sum counts.old.items + total) }
     ensures fits { IfOk result (λ total. total ≤ edges) }
     ensures cause { IfErr result (λ fault. OnDepotFault fault (Rose (D.faults depot.old) (D.faults depot.new))) }
     ensures damaged { IfErr result (λ fault. IfDamaged fault (λ p n.
-        (32 ≤ p) × (0 < n) × ((meta : List ℕ) → D.holds depot.old FileKind.Meta ≡ Some meta
-        → added edges place before (numbers place parts meta) ≡ Err (record { place = p; found = n })))) }
+        (0 < n) × ((k : ℕ) × (k < parts) × (p ≡ 32 + 8 * first + 8 * k)) × ((meta : List ℕ) → D.holds depot.old FileKind.Meta ≡ Some meta
+        → added edges (32 + 8 * first) before (numbers (32 + 8 * first) parts meta) ≡ Err (record { place = p; found = n })))) }
     ensures memory { IsErrOf result TableFault.NoMemory → ⊥ }
     ensures reads { Reads D.holds D.taken D.stored D.faults D.attached FileKind.Meta depot.old depot.new }
 {
+    let place = 32 + 8 * first as u64;
     let Ok(()) = fill(depot, place, column) else {
         return Err(TableFault::Depot);
     };
@@ -182,7 +183,7 @@ fn load_columns<D: Depot>(
     ensures sum { OnOk result (sum counts.new.items ≡ info.edges) }
     ensures cause { IfErr result (λ fault. OnDepotFault fault (Rose (D.faults depot.old) (D.faults depot.new))) }
     ensures damaged { IfErr result (λ fault. IfDamaged fault (λ p n.
-        IsWrongCount info.edges p n × ((meta : List ℕ) → D.holds depot.old FileKind.Meta ≡ Some meta
+        IsWrongCount info p n × ((meta : List ℕ) → D.holds depot.old FileKind.Meta ≡ Some meta
         → counted info.edges (counts_of info.parts meta) ≡ Err (record { place = p; found = n })))) }
     ensures memory { IsErrOf result TableFault.NoMemory → ⊥ }
     ensures reads { Reads D.holds D.taken D.stored D.faults D.attached FileKind.Meta depot.old depot.new }
@@ -190,8 +191,7 @@ fn load_columns<D: Depot>(
     let parts = info.parts as usize;
     let mut total = 0;
     for j in 0..parts {
-        let place = 32 + 8 * (j * parts) as u64;
-        total = load_column(depot, info.edges, place, total, column, parts, counts)?;
+        total = load_column(depot, info.edges, j * parts, total, column, parts, counts)?;
     }
     match reach(info.edges, total) {
         Ok(()) => Ok(()),
@@ -204,9 +204,9 @@ fn load_columns<D: Depot>(
 
 impl BlockTable {
     /// Reads how many edges each block of a grid has, where the files were found to be a grid's with this head. `Depot`
-    /// comes only where the depot's count of faults rose. `NoMemory` comes only where memory ran out, before the depot is
-    /// called. `Damaged` never comes over a depot that tells its files: it carries the place and the number with which the
-    /// counts that were read don't add up to the edges. No file changes. The format is our own.
+    /// comes only where the depot's count of faults rose. `NoMemory` is want of memory, before the depot is called.
+    /// `Damaged` never comes over a depot that tells its files: it carries the place of one of the counts, or 24, and the
+    /// number there with which the counts that were read don't add up to the edges. No file changes. The format is our own.
     pub fn read<D: Depot>(
         alloc: Global,
         depot: &mut D,
@@ -221,7 +221,7 @@ impl BlockTable {
         ensures sum { IfOk result (λ table. sum table.counts ≡ info.edges) }
         ensures cause { IfErr result (λ fault. OnDepotFault fault (Rose (D.faults depot.old) (D.faults depot.new))) }
         ensures damaged { IfErr result (λ fault. IfDamaged fault (λ p n.
-            IsWrongCount info.edges p n × (D.holds depot.old FileKind.Meta ≡ None))) }
+            IsWrongCount info p n × (D.holds depot.old FileKind.Meta ≡ None))) }
         ensures memory { IsErrOf result TableFault.NoMemory → depot.new ≡ depot.old }
         ensures reads { Reads D.holds D.taken D.stored D.faults D.attached FileKind.Meta depot.old depot.new }
     {

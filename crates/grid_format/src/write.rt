@@ -120,7 +120,7 @@ fn mark_meta<D: Depot>(depot: &mut D) -> Result<(), DepotFault>
 /// be empty where the depot tells it. The first eight bytes, by which files are known as a grid's, are written last.
 ///
 /// `Failed` comes only where the depot's count of faults rose. Then Meta doesn't begin with those eight bytes, or it is
-/// whole. `NoMemory` comes only where memory ran out, and leaves Meta empty. No other file changes. The format is our own.
+/// whole. `NoMemory` is want of memory, and leaves Meta empty. No other file changes. The format is our own.
 pub fn write_meta<D: Depot>(depot: &mut D, info: GridInfo, counts: &[u64]) -> Result<(), DepotFault>
     requires attached { IsSome (D.attached depot.old) }
     requires head { IsHead info }

@@ -36,7 +36,7 @@ use Rattle.early_engine.specs.Report.{finished, report}
 use Rattle.early_engine.specs.Reported.{IsReport}
 use Rattle.early_engine.specs.Runs.{RunComes, Streams}
 use Rattle.early_engine.specs.Making.{IsOver}
-use Rattle.early_engine.specs.Turns.{RunIsOver, RunShows, ending_by_why}
+use Rattle.early_engine.specs.Turns.{SomeShows, ending_by_why}
 use Rattle.grid_format.specs.Tables.{BlockCounts}
 use Rattle.early_engine.specs.declared.options.Mode.{Mode}
 use Rattle.early_engine.specs.declared.options.OpenFault.{OpenFault}
@@ -463,6 +463,14 @@ module _ {D : Type 0} (h : D → FileKind → Option (List ℕ)) (t s : D → Fi
     sums_stored = stored Sums;
   }
 
+values_apart : (kind : Kind) → Values ≡ file_of kind → ⊥
+values_apart Full e = let d : Values ≡ Primary = e in cc
+values_apart Fed e = let d : Values ≡ Secondary = e in cc
+
+sums_apart : (kind : Kind) → Sums ≡ file_of kind → ⊥
+sums_apart Full e = let d : Sums ≡ Primary = e in cc
+sums_apart Fed e = let d : Sums ≡ Secondary = e in cc
+
 module _ {D : Type 0} (h : D → FileKind → Option (List ℕ)) (t s : D → FileKind → ℕ) (f : D → ℕ) (a : D → Option (List ℕ)) where
   pub build_leaves : (old new : D) → BuildLeaves h t s f a old new → LeavesRuns h t s old new
   build_leaves old new b = record {
@@ -484,12 +492,12 @@ module _ {D : Type 0} (h : D → FileKind → Option (List ℕ)) (t s : D → Fi
     sums_stored = b.stored Sums;
   }
 
-  pub run_leaves_files : (old new : D) → Streams h t s f a old new → LeavesRuns h t s old new
-  run_leaves_files old new b = record {
+  pub run_leaves_files : (mode : Mode) (limit : ℕ) (old new : D) → Streams h t s f a mode limit old new → LeavesRuns h t s old new
+  run_leaves_files mode limit old new b = record {
     values = b.contents Values;
     sums = b.contents Sums;
-    values_taken = b.taken Values (λ e. cc) (λ e. cc) (λ e. cc);
-    sums_taken = b.taken Sums (λ e. cc) (λ e. cc) (λ e. cc);
+    values_taken = b.taken Values (λ e. cc) (λ u some few e. values_apart (kind_of mode u) e);
+    sums_taken = b.taken Sums (λ e. cc) (λ u some few e. sums_apart (kind_of mode u) e);
     values_stored = b.stored Values;
     sums_stored = b.stored Sums;
   }

@@ -1,6 +1,6 @@
 use Rattle.std.proofs.Common.{◌≡◌, sym, ap, ◌∙◌, arith}
 use Rattle.column_stream.specs.Cursors.{CursorState}
-use Rattle.early_engine.proofs.GridLemmas.{begins_at, block_inside, bytes_few, cursor_at, cursor_inside, edges_streamed, fits_part, never_damaged, shows_stray}
+use Rattle.early_engine.proofs.GridLemmas.{begins_at, block_inside, bytes_few, cursor_at, cursor_inside, edges_streamed, fits_part, never_damaged, of_block}
 use Rattle.early_engine.proofs.block.load_block.Goals as goal
 use Rattle.early_engine.proofs.block.load_block.Goals.{After-new-cursor}
 
@@ -54,4 +54,4 @@ pub returns-in-Err-clause-damaged : goal.returns-in-Err-clause-damaged
 returns-in-Err-clause-damaged g c =
     let cut = c.args.layout.now.parts in
     let table = c.args.layout.now.table in
-    shows_stray c.args.kind cut table c.args.i c.args.j c.new-cursor.result c.in-Err.fault (begins g (goal.at.returns-in-Err-clause-damaged g c).After-new-cursor) c.requires.row c.requires.column c.in-Err.ensures.damaged
+    of_block c.args.kind cut table c.args.i c.args.j c.new-cursor.result c.in-Err.fault (begins g (goal.at.returns-in-Err-clause-damaged g c).After-new-cursor) c.in-Err.ensures.damaged

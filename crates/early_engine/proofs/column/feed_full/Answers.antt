@@ -3,12 +3,11 @@ use Rattle.lumos_depot.specs.declared.depot.FileKind.TheVariants.{Primary}
 use Rattle.lumos_law.specs.Sync.{values}
 use Rattle.lumos_report.specs.declared.records.Kind.TheVariants.{Full}
 use Rattle.partition.specs.Parts.{chunk_of, first_vertex}
-use Rattle.early_engine.specs.Passes.{bytes_of, place_at, tally_of}
-use Rattle.early_engine.specs.Steps.{needs_by}
+use Rattle.early_engine.specs.Passes.{place_at}
 use Rattle.early_engine.proofs.FeedLemmas.{fed_as, fed_none}
 use Rattle.early_engine.proofs.GridLemmas.{blocks_same, on_grid_same}
-use Rattle.lumos_depot.proofs.StepLemmas.{reads_none, reads_then, rose_whole}
-use Rattle.early_engine.proofs.PassLemmas.{bytes_both, rows_from, rows_more}
+use Rattle.lumos_depot.proofs.StepLemmas.{reads_none, reads_then}
+use Rattle.early_engine.proofs.PassLemmas.{gone_as, rows_from, rows_more}
 use Rattle.early_engine.proofs.column.feed_full.Goals as goal
 
 pub loop-i-init : goal.loop-i-init
@@ -24,8 +23,7 @@ loop-i-init g c =
       moved = refl;
       fed = λ edges t grid ready. fed_none p edges cut j 0 (values p edges t) g.G.Sum.Combine.unit c.clear_sums.new.sums refl unit_is (c.clear_sums.ensures first);
       ahead = λ edges t grid ready on. fed_none p edges cut j (min 0 j) (values p edges (suc t)) g.G.Sum.Combine.unit c.clear_early.new.early (omega arith) unit_is (c.clear_early.ensures on first);
-      counted = λ edges t bs moved grid ready is. is ∙ ap (λ l. tally_of Full edges (chunk_of cut) (needs_by p edges cut c.args.ahead t) l moved) (sym (append-nil bs));
-      taken = λ edges t grid ready low. omega arith;
+      gone = λ size need bs begun are gone. gone_as size need Full bs (bs ++ []) begun _ c.args.counts.now (sym (append-nil bs)) gone;
     }
 
 pub feed_both-requires-clause-inside : goal.feed_both-requires-clause-inside
@@ -45,6 +43,7 @@ loop-i-preserved g c =
     let kept = c.loop-i.invariant in
     let next = c.in-Ok.ensures in
     let at : i ≡ 0 + i = omega arith in
+    let row : i < cut.parts = omega (arith, c.loop-i.auto.i-end, c.loop-i-test.true, c.parts-i-end.ensures.value) in
     record {
       reads = reads_then g.D.Depot.holds g.D.Depot.taken g.D.Depot.stored g.D.Depot.faults g.D.Depot.attached Primary _ _ _ kept.reads next.reads;
       few = omega (arith, next.few, kept.few);
@@ -53,16 +52,10 @@ loop-i-preserved g c =
           next.fed edges t (on_grid_same edges cut table _ _ kept.reads.contents grid) ready (kept.fed edges t grid ready);
       ahead = λ edges t grid ready on.
           next.ahead edges t (on_grid_same edges cut table _ _ kept.reads.contents grid) ready on (kept.ahead edges t grid ready on);
-      counted = λ edges t bs moved grid ready is.
-          let here = on_grid_same edges cut table _ _ kept.reads.contents grid in
-          let need = needs_by p edges cut c.args.ahead t in
-          next.counted edges t (bs ++ rows_from 0 i j) moved here ready (kept.counted edges t bs moved grid ready is)
-          ∙ ap (λ l. tally_of Full edges (chunk_of cut) need l moved) (append_assoc bs (rows_from 0 i j) (place_at i j ∷ []) ∙ ap (λ l. bs ++ l) (sym (rows_more 0 i i j at)));
-      taken = λ edges t grid ready.
-          let here = on_grid_same edges cut table _ _ kept.reads.contents grid in
-          let need = needs_by p edges cut c.args.ahead t in
-          rose_whole _ _ _ (bytes_of edges (chunk_of cut) need (rows_from 0 i j)) (bytes_of edges (chunk_of cut) need (place_at i j ∷ [])) _
-          (ap (bytes_of edges (chunk_of cut) need) (rows_more 0 i i j at) ∙ bytes_both edges (chunk_of cut) need (rows_from 0 i j) (place_at i j ∷ [])) (kept.taken edges t grid ready) (next.taken edges t here ready);
+      gone = λ size need bs begun are gone.
+          gone_as size need Full ((bs ++ rows_from 0 i j) ++ place_at i j ∷ []) (bs ++ rows_from 0 (i + 1) j) begun _ c.feed_both.new.counts
+          (append_assoc bs (rows_from 0 i j) (place_at i j ∷ []) ∙ ap (λ l. bs ++ l) (sym (rows_more 0 i i j at)))
+          (next.gone size need (bs ++ rows_from 0 i j) begun (are i row) (kept.gone size need bs begun are gone));
     }
 
 pub returns-clause-fed : goal.returns-clause-fed
@@ -81,16 +74,13 @@ returns-clause-ahead g c edges t grid ready on =
     let p = g.G.VertexProgram.model c.args.program.now in
     fed_as p edges cut c.args.j _ _ (values p edges (suc t)) c.loop-i.early rows (c.loop-i.invariant.ahead edges t grid ready on)
 
-pub returns-clause-counted : goal.returns-clause-counted
-returns-clause-counted g c edges t bs moved grid ready is =
-    let need = needs_by (g.G.VertexProgram.model c.args.program.now) edges c.args.layout.now.parts c.args.ahead t in
+pub returns-clause-gone : goal.returns-clause-gone
+returns-clause-gone g c size need bs begun are gone =
     let cut = c.args.layout.now.parts in
     let all : c.loop-i.i ≡ cut.parts = omega (arith, c.loop-i.auto.i-end, c.loop-i-test.false, c.parts-i-end.ensures.value) in
-    c.loop-i.invariant.counted edges t bs moved grid ready is ∙ ap (λ (n : ℕ). tally_of Full edges (chunk_of cut) need (bs ++ rows_from 0 n c.args.j) moved) all
+    gone_as size need Full (bs ++ rows_from 0 c.loop-i.i c.args.j) (bs ++ rows_from 0 cut.parts c.args.j) begun _ c.loop-i.counts (ap (λ (n : ℕ). bs ++ rows_from 0 n c.args.j) all) (c.loop-i.invariant.gone size need bs begun are gone)
 
-pub returns-clause-taken : goal.returns-clause-taken
-returns-clause-taken g c edges t grid ready low =
-    let need = needs_by (g.G.VertexProgram.model c.args.program.now) edges c.args.layout.now.parts c.args.ahead t in
-    let cut = c.args.layout.now.parts in
-    let all : c.loop-i.i ≡ cut.parts = omega (arith, c.loop-i.auto.i-end, c.loop-i-test.false, c.parts-i-end.ensures.value) in
-    c.loop-i.invariant.taken edges t grid ready low ∙ ap (λ (n : ℕ). g.D.Depot.taken c.args.depot.now Primary + bytes_of edges (chunk_of cut) need (rows_from 0 n c.args.j)) all
+pub returns-in-Err-clause-damaged : goal.returns-in-Err-clause-damaged
+returns-in-Err-clause-damaged g c =
+    let row : c.loop-i.i < c.args.layout.now.parts.parts = omega (arith, c.loop-i.auto.i-end, c.loop-i-test.true, c.parts-i-end.ensures.value) in
+    record { row = c.loop-i.i; column = c.args.j; row_in = row; column_in = c.requires.column; through = tt; shown = c.in-Err.ensures.damaged }

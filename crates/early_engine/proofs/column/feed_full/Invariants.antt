@@ -1,13 +1,13 @@
-use Rattle.std.proofs.Common.{◌≡◌, ◌≤◌, ◌+◌, ◌++◌, min, suc, true, ℕ, List}
+use Rattle.std.proofs.Common.{◌≡◌, ◌<◌, ◌≤◌, ◌+◌, ◌++◌, min, suc, Bool, true, ℕ, List}
 use Rattle.lumos_base.specs.declared.records.Edge.{Edge}
 use Rattle.lumos_depot.specs.declared.depot.FileKind.TheVariants.{Primary}
 use Rattle.lumos_law.specs.Sync.{values}
 use Rattle.lumos_report.specs.declared.records.Kind.TheVariants.{Full}
-use Rattle.partition.specs.Parts.{chunk_of}
-use Rattle.lumos_depot.specs.Steps.{Reads, RoseBy}
+use Rattle.lumos_depot.specs.Steps.{Reads}
+use Rattle.early_engine.specs.Gone.{AreOf, HasGone}
 use Rattle.early_engine.specs.Grids.{IsOnGrid}
-use Rattle.early_engine.specs.Passes.{Place, bytes_of, tally_of}
-use Rattle.early_engine.specs.Steps.{IsFedTo, IsReady, blocks_in, needs_by}
+use Rattle.early_engine.specs.Passes.{Place}
+use Rattle.early_engine.specs.Steps.{IsFedTo, IsReady, blocks_in}
 use Rattle.early_engine.proofs.PassLemmas.{rows_from}
 use Rattle.early_engine.proofs.column.feed_full.Given as goal
 
@@ -23,8 +23,6 @@ invariant-loop-i g l =
           → IsFedTo p edges cut l.j l.i (values p edges t) l.sums;
       ahead : (edges : List Edge) (t : ℕ) → IsOnGrid edges cut l.layout.table (g.D.Depot.holds l.fn.depot) → IsReady p edges cut l.j t l.before l.after l.active.was_hot l.active.is_hot
           → l.ahead ≡ true → IsFedTo p edges cut l.j (min l.i l.j) (values p edges (suc t)) l.early;
-      counted : (edges : List Edge) (t : ℕ) (bs : List Place) (moved : ℕ) → IsOnGrid edges cut l.layout.table (g.D.Depot.holds l.fn.depot) → IsReady p edges cut l.j t l.before l.after l.active.was_hot l.active.is_hot
-          → l.fn.counts ≡ tally_of Full edges (chunk_of cut) (needs_by p edges cut l.ahead t) bs moved → l.counts ≡ tally_of Full edges (chunk_of cut) (needs_by p edges cut l.ahead t) (bs ++ rows_from 0 l.i l.j) moved;
-      taken : (edges : List Edge) (t : ℕ) → IsOnGrid edges cut l.layout.table (g.D.Depot.holds l.fn.depot) → IsReady p edges cut l.j t l.before l.after l.active.was_hot l.active.is_hot
-          → RoseBy (g.D.Depot.taken l.fn.depot Primary) (g.D.Depot.taken l.depot Primary) (bytes_of edges (chunk_of cut) (needs_by p edges cut l.ahead t) (rows_from 0 l.i l.j));
+      gone : (size : Place → ℕ) (need : Place → Bool) (bs : List Place) (begun : ℕ) → ((i : ℕ) → i < cut.parts → AreOf l.layout.table l.active.was_hot l.active.is_hot l.ahead size need i l.j)
+          → HasGone Full size need bs begun (g.D.Depot.taken l.fn.depot Primary) l.fn.counts → HasGone Full size need (bs ++ rows_from 0 l.i l.j) begun (g.D.Depot.taken l.depot Primary) l.counts;
     }

@@ -1,13 +1,13 @@
-use Rattle.std.proofs.Common.{◌≡◌, ◌≤◌, ◌+◌, ◌-◌, ◌++◌, false, ℕ, List}
+use Rattle.std.proofs.Common.{◌≡◌, ◌<◌, ◌≤◌, ◌+◌, ◌-◌, ◌++◌, Bool, false, ℕ, List}
 use Rattle.lumos_base.specs.declared.records.Edge.{Edge}
 use Rattle.lumos_depot.specs.declared.depot.FileKind.TheVariants.{Secondary}
 use Rattle.lumos_law.specs.Sync.{values, IsChunk}
 use Rattle.lumos_report.specs.declared.records.Kind.TheVariants.{Fed}
-use Rattle.partition.specs.Parts.{chunk_of}
-use Rattle.lumos_depot.specs.Steps.{Reads, RoseBy}
+use Rattle.lumos_depot.specs.Steps.{Reads}
+use Rattle.early_engine.specs.Gone.{AreOf, HasGone}
 use Rattle.early_engine.specs.Grids.{IsOnGrid}
-use Rattle.early_engine.specs.Passes.{Place, bytes_of, tally_of}
-use Rattle.early_engine.specs.Steps.{AreHot, IsFedTo, blocks_in, needs_by}
+use Rattle.early_engine.specs.Passes.{Place}
+use Rattle.early_engine.specs.Steps.{AreHot, IsFedTo, blocks_in}
 use Rattle.early_engine.proofs.PassLemmas.{rows_from}
 use Rattle.early_engine.proofs.column.feed_rest.Given as goal
 
@@ -22,8 +22,6 @@ invariant-loop-i g l =
       moved : l.counts.moved ≡ l.fn.counts.moved;
       fed : (edges : List Edge) (t : ℕ) → IsOnGrid edges cut l.layout.table (g.D.Depot.holds l.fn.depot) → IsChunk (values p edges t) 0 l.before → AreHot p edges cut cut.parts t l.active.was_hot
           → IsFedTo p edges cut l.j l.j (values p edges t) l.fn.sums → IsFedTo p edges cut l.j l.i (values p edges t) l.sums;
-      counted : (edges : List Edge) (t : ℕ) (bs : List Place) (moved : ℕ) → IsOnGrid edges cut l.layout.table (g.D.Depot.holds l.fn.depot) → AreHot p edges cut cut.parts t l.active.was_hot
-          → l.fn.counts ≡ tally_of Fed edges (chunk_of cut) (needs_by p edges cut false t) bs moved → l.counts ≡ tally_of Fed edges (chunk_of cut) (needs_by p edges cut false t) (bs ++ rows_from l.j (l.i - l.j) l.j) moved;
-      taken : (edges : List Edge) (t : ℕ) → IsOnGrid edges cut l.layout.table (g.D.Depot.holds l.fn.depot) → AreHot p edges cut cut.parts t l.active.was_hot
-          → RoseBy (g.D.Depot.taken l.fn.depot Secondary) (g.D.Depot.taken l.depot Secondary) (bytes_of edges (chunk_of cut) (needs_by p edges cut false t) (rows_from l.j (l.i - l.j) l.j));
+      gone : (are : List Bool) (size : Place → ℕ) (need : Place → Bool) (bs : List Place) (begun : ℕ) → ((i : ℕ) → i < cut.parts → AreOf l.layout.table l.active.was_hot are false size need i l.j)
+          → HasGone Fed size need bs begun (g.D.Depot.taken l.fn.depot Secondary) l.fn.counts → HasGone Fed size need (bs ++ rows_from l.j (l.i - l.j) l.j) begun (g.D.Depot.taken l.depot Secondary) l.counts;
     }

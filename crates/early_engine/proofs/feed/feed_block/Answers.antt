@@ -1,16 +1,16 @@
-use Rattle.std.proofs.Common.{◌≡◌, ◌<◌, ◌-◌, true, false, length, take, sym, ap, ◌∙◌, arith}
+use Rattle.std.proofs.Common.{◌≡◌, ◌*◌, ◌-◌, ℕ, true, false, length, take, sym, ap, ◌∙◌, subst, arith}
 use Rattle.std.proofs.lemmas.List.{length-take, nil_from_length}
+use Rattle.lumos_depot.specs.Steps.{RoseBy}
 use Rattle.lumos_law.specs.Sync.{values}
 use Rattle.lumos_law.proofs.ChunkLemmas.{chunk_part}
 use Rattle.partition.specs.Blocks.{block}
 use Rattle.partition.specs.Parts.{chunk_of, first_vertex}
 use Rattle.partition.specs.declared.records.VertexRange.{VertexRange}
-use Rattle.early_engine.specs.Passes.{place_at, size_at}
-use Rattle.early_engine.specs.Steps.{with_read}
+use Rattle.early_engine.specs.Passes.{file_of, place_at}
 use Rattle.early_engine.proofs.FeedLemmas.{fed_empty}
 use Rattle.early_engine.proofs.GridLemmas.{grid_list, size_is}
 use Rattle.early_engine.proofs.HotLemmas.{fed_cold, not_hot}
-use Rattle.early_engine.proofs.PassLemmas.{bytes_empty, bytes_read, bytes_skipped, tally_empty, tally_read, tally_skipped, with_empty, with_skipped}
+use Rattle.early_engine.proofs.PassLemmas.{gone_empty, gone_read, gone_skipped}
 use Rattle.early_engine.proofs.feed.feed_block.Goals as goal
 
 pub returns-then-count-eq0-clause-edges : goal.returns-then-count-eq0-clause-edges
@@ -27,20 +27,6 @@ returns-then-count-eq0-clause-fed g c edges t grid hot holds sums =
     let none = nil_from_length (block edges (chunk_of cut) c.args.i c.args.j) (omega (arith, size, c.count-count.ensures, c.if-count-eq0.true)) in
     fed_empty p edges cut c.args.i c.args.j (values p edges t) c.args.sums.now none sums
 
-pub returns-then-count-eq0-clause-counted : goal.returns-then-count-eq0-clause-counted
-returns-then-count-eq0-clause-counted g c edges need bs moved grid needed is =
-    let cut = c.args.layout.now.parts in
-    let size = size_is edges cut c.args.layout.now.table _ c.args.i c.args.j c.requires.row c.requires.column grid in
-    let none : size_at edges (chunk_of cut) (place_at c.args.i c.args.j) ≡ 0 = omega (arith, size, c.count-count.ensures, c.if-count-eq0.true) in
-    c.add_empty.ensures ∙ ap with_empty is ∙ sym (tally_empty edges (chunk_of cut) need c.args.kind bs (place_at c.args.i c.args.j) moved none)
-
-pub returns-then-count-eq0-clause-taken : goal.returns-then-count-eq0-clause-taken
-returns-then-count-eq0-clause-taken g c edges need grid needed low =
-    let cut = c.args.layout.now.parts in
-    let size = size_is edges cut c.args.layout.now.table _ c.args.i c.args.j c.requires.row c.requires.column grid in
-    let none : size_at edges (chunk_of cut) (place_at c.args.i c.args.j) ≡ 0 = omega (arith, size, c.count-count.ensures, c.if-count-eq0.true) in
-    omega (arith, bytes_empty edges (chunk_of cut) need (place_at c.args.i c.args.j) none)
-
 pub returns-then-not-needed-clause-edges : goal.returns-then-not-needed-clause-edges
 returns-then-not-needed-clause-edges g c edges grid need = absurd (let e : true ≡ false = sym need ∙ c.if-not-needed.true in cc)
 
@@ -52,17 +38,6 @@ returns-then-not-needed-clause-fed g c edges t grid hot holds sums =
     let cold = not_hot c.args.hot c.args.needed c.requires.needed c.if-not-needed.true in
     fed_cold p laws edges cut (grid_list edges cut c.args.layout.now.table _ grid) t c.args.i c.args.j c.args.sums.now (sym hot ∙ cold) sums
 
-pub returns-then-not-needed-clause-counted : goal.returns-then-not-needed-clause-counted
-returns-then-not-needed-clause-counted g c edges need bs moved grid needed is =
-    let cut = c.args.layout.now.parts in
-    let size = size_is edges cut c.args.layout.now.table _ c.args.i c.args.j c.requires.row c.requires.column grid in
-    let some : 0 < size_at edges (chunk_of cut) (place_at c.args.i c.args.j) = omega (arith, size, c.count-count.ensures, c.if-count-eq0.false) in
-    c.add_skipped.ensures ∙ ap with_skipped is ∙ sym (tally_skipped edges (chunk_of cut) need c.args.kind bs (place_at c.args.i c.args.j) moved some (sym needed ∙ c.if-not-needed.true))
-
-pub returns-then-not-needed-clause-taken : goal.returns-then-not-needed-clause-taken
-returns-then-not-needed-clause-taken g c edges need grid needed low =
-    omega (arith, bytes_skipped edges (chunk_of c.args.layout.now.parts) need (place_at c.args.i c.args.j) (sym needed ∙ c.if-not-needed.true))
-
 pub returns-clause-fed : goal.returns-clause-fed
 returns-clause-fed g c edges t grid hot holds sums =
     let state = values (g.G.VertexProgram.model c.args.program.now) edges t in
@@ -72,20 +47,19 @@ returns-clause-fed g c edges t grid hot holds sums =
     let part = chunk_part state 0 c.args.before.now first (c.range_of-sources.result.past - first) (first_vertex cut.vertices (chunk_of cut) c.args.i) (sym first_is ∙ omega arith) holds in
     c.feed_part.ensures edges t (grid_list edges cut c.args.layout.now.table _ grid) hot (λ on. c.in-Ok.ensures.edges edges grid) part sums
 
-pub returns-clause-counted : goal.returns-clause-counted
-returns-clause-counted g c edges need bs moved grid needed is =
-    let cut = c.args.layout.now.parts in
-    let size = size_is edges cut c.args.layout.now.table _ c.args.i c.args.j c.requires.row c.requires.column grid in
-    let some : 0 < size_at edges (chunk_of cut) (place_at c.args.i c.args.j) = omega (arith, size, c.count-count.ensures, c.if-count-eq0.false) in
-    c.count_read.ensures.value ∙ ap (with_read c.args.kind) is ∙ sym (tally_read edges (chunk_of cut) need c.args.kind bs (place_at c.args.i c.args.j) moved some (sym needed ∙ c.if-not-needed.false))
+pub returns-then-count-eq0-clause-gone : goal.returns-then-count-eq0-clause-gone
+returns-then-count-eq0-clause-gone g c size need bs begun sized needed gone =
+    gone_empty size need c.args.kind bs (place_at c.args.i c.args.j) begun _ c.args.counts.now c.add_empty.new.self (omega (arith, sized, c.count-count.ensures, c.if-count-eq0.true)) c.add_empty.ensures gone
 
-pub returns-clause-taken : goal.returns-clause-taken
-returns-clause-taken g c edges need grid needed low =
-    let cut = c.args.layout.now.parts in
-    let size = size_is edges cut c.args.layout.now.table _ c.args.i c.args.j c.requires.row c.requires.column grid in
-    let some : 0 < size_at edges (chunk_of cut) (place_at c.args.i c.args.j) = omega (arith, size, c.count-count.ensures, c.if-count-eq0.false) in
-    let bytes = bytes_read edges (chunk_of cut) need (place_at c.args.i c.args.j) some (sym needed ∙ c.if-not-needed.false) in
+pub returns-then-not-needed-clause-gone : goal.returns-then-not-needed-clause-gone
+returns-then-not-needed-clause-gone g c size need bs begun sized needed gone =
+    gone_skipped size need c.args.kind bs (place_at c.args.i c.args.j) begun _ c.args.counts.now c.add_skipped.new.self (omega (arith, sized, c.count-count.ensures, c.if-count-eq0.false)) (sym needed ∙ c.if-not-needed.true) c.add_skipped.ensures gone
+
+pub returns-clause-gone : goal.returns-clause-gone
+returns-clause-gone g c size need bs begun sized needed gone =
     let count = c.count-count.result in
     let longest = c.requires.laid.longest c.args.i c.args.j c.requires.row c.requires.column in
     let whole : length (take count c.args.room.now) ≡ count = simp length-take (omega (arith, longest, c.count-count.ensures)) in
-    omega (arith, bytes, size, c.count-count.ensures, whole, c.in-Ok.ensures.taken)
+    let same : length (take count c.args.room.now) ≡ size (place_at c.args.i c.args.j) = omega (arith, whole, sized, c.count-count.ensures) in
+    gone_read size need c.args.kind bs (place_at c.args.i c.args.j) begun _ _ c.args.counts.now c.count_read.new.counts (omega (arith, sized, c.count-count.ensures, c.if-count-eq0.false)) (sym needed ∙ c.if-not-needed.false)
+    c.count_read.ensures.value c.count_read.ensures.moved (subst (λ (n : ℕ). RoseBy (g.D.Depot.taken c.args.depot.now (file_of c.args.kind)) (g.D.Depot.taken c.load_block.new.depot (file_of c.args.kind)) (12 * n)) same c.in-Ok.ensures.taken) gone

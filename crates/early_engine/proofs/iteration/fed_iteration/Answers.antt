@@ -1,4 +1,4 @@
-use Rattle.std.proofs.Common.{◌≡◌, ℕ, suc, ◌+◌, ◌-◌, ◌<◌, ◌≤◌, ◌++◌, false, length, take, drop, refl, sym, ap, ◌∙◌, subst, arith}
+use Rattle.std.proofs.Common.{◌≡◌, ℕ, suc, ◌+◌, ◌-◌, ◌<◌, ◌≤◌, ◌++◌, Bool, false, List, length, take, drop, refl, sym, ap, ◌∙◌, subst, arith}
 use Rattle.std.proofs.lemmas.List.{length-take, length-drop}
 use Rattle.active_sets.specs.Active.{ActiveState}
 use Rattle.lumos_depot.specs.declared.depot.FileKind.TheVariants.{Secondary}
@@ -10,15 +10,16 @@ use Rattle.partition.specs.Parts.{chunk_of, first_vertex, part_length}
 use Rattle.partition.specs.declared.records.VertexRange.{VertexRange}
 use Rattle.io_account.specs.declared.Counts.{Counts}
 use Rattle.early_engine.specs.Early.{early_sum}
-use Rattle.early_engine.specs.Passes.{bytes_of, is_hot, places, places_below, tally_of}
-use Rattle.early_engine.specs.Steps.{AreHot, IsMadeBelow, blocks_in, needs_by}
+use Rattle.early_engine.specs.Gone.{AreOf}
+use Rattle.early_engine.specs.Passes.{is_hot, passes, places, places_below}
+use Rattle.early_engine.specs.Steps.{AreHot, IsMadeBelow, blocks_in}
 use Rattle.early_engine.proofs.FeedLemmas.{early_given}
 use Rattle.early_engine.proofs.GridLemmas.{blocks_same, on_grid_same}
 use Rattle.early_engine.proofs.FlagLemmas.{marked}
 use Rattle.early_engine.proofs.HotLemmas.{hot_still}
 use Rattle.early_engine.proofs.MadeLemmas.{column_chunk, made_all, made_none}
-use Rattle.lumos_depot.proofs.StepLemmas.{reads_none, reads_then, rose_whole}
-use Rattle.early_engine.proofs.PassLemmas.{below_more, bytes_both, tally_moved}
+use Rattle.lumos_depot.proofs.StepLemmas.{reads_none, reads_then}
+use Rattle.early_engine.proofs.PassLemmas.{below_more, gone_as, gone_moved, gone_none}
 use Rattle.early_engine.proofs.iteration.fed_iteration.Goals as goal
 
 pub loop-j-init : goal.loop-j-init
@@ -35,8 +36,7 @@ loop-j-init g c =
       made = λ edges t grid holds hot sums. made_none p edges cut t c.args.after.now c.zero-counts.result.moved none;
       hot = λ edges t grid holds hot sums i below. absurd (omega arith);
       rest = λ k low. refl;
-      counted = λ edges t grid hot. c.zero-counts.ensures ∙ ap (tally_of Fed edges (chunk_of cut) (needs_by p edges cut false t) (places_below Fed cut.parts 0)) (sym none);
-      taken = λ edges t grid hot low. omega arith;
+      gone = λ are size need is. gone_none size need Fed (g.D.Depot.taken c.args.depot.now Secondary) c.zero-counts.result c.zero-counts.ensures;
     }
 
 pub feed_rest-requires-clause-inside : goal.feed_rest-requires-clause-inside
@@ -110,21 +110,11 @@ loop-j-preserved g c =
       rest = λ k low.
           drop-put_mid first (past - first) c.loop-j.early c.feed_rest.new.sums k (omega (arith, past_is, low, ordered)) (omega (arith, early_long, ordered, inside)) (sums_long ∙ omega (arith, first_is, past_is))
           ∙ kept.rest k (omega (arith, first_is, past_is, ordered, low));
-      counted = λ edges t grid hot.
-          let here = on_grid_same edges cut table _ _ kept.reads.contents grid in
-          let need = needs_by p edges cut false t in
-          let more = c.in-Ok-make_part.end.moved in
-          added ∙ ap (λ (k : Counts). record k { moved = k.moved + more })
-          (next.counted edges t (places_below Fed cut.parts j) c.loop-j.counts.moved here (hot_still p edges cut t c.args.active.now.was_hot c.loop-j.active.was_hot kept.was_hot hot) (kept.counted edges t grid hot))
-          ∙ tally_moved edges (chunk_of cut) need Fed (places_below Fed cut.parts j ++ places Fed cut.parts j) c.loop-j.counts.moved more
-          ∙ ap (λ bs. tally_of Fed edges (chunk_of cut) need bs (c.loop-j.counts.moved + more)) (sym (below_more Fed cut.parts j))
-          ∙ ap (tally_of Fed edges (chunk_of cut) need (places_below Fed cut.parts (j + 1))) (sym moves);
-      taken = λ edges t grid hot.
-          let here = on_grid_same edges cut table _ _ kept.reads.contents grid in
-          let need = needs_by p edges cut false t in
-          rose_whole _ _ _ (bytes_of edges (chunk_of cut) need (places_below Fed cut.parts j)) (bytes_of edges (chunk_of cut) need (places Fed cut.parts j)) _
-          (ap (bytes_of edges (chunk_of cut) need) (below_more Fed cut.parts j) ∙ bytes_both edges (chunk_of cut) need (places_below Fed cut.parts j) (places Fed cut.parts j)) (kept.taken edges t grid hot)
-          (next.taken edges t here (hot_still p edges cut t c.args.active.now.was_hot c.loop-j.active.was_hot kept.was_hot hot));
+      gone = λ are size need is.
+          let here : (i : ℕ) → i < cut.parts → AreOf table c.loop-j.active.was_hot are false size need i j = λ i within. subst (λ (w : List Bool). AreOf table w are false size need i j) (sym kept.was_hot) (is i j within (omega arith)) in
+          gone_moved size need Fed (places_below Fed cut.parts (j + 1)) _ _ c.in-Ok-make_part.end.moved c.feed_rest.new.counts c.add_moved.new.self added
+          (gone_as size need Fed (places_below Fed cut.parts j ++ places Fed cut.parts j) (places_below Fed cut.parts (j + 1)) _ _ c.feed_rest.new.counts (sym (below_more Fed cut.parts j))
+          (next.gone are size need (places_below Fed cut.parts j) _ here (kept.gone are size need (λ i k within low. is i k within (omega (arith, low))))));
     }
 
 pub returns-clause-made : goal.returns-clause-made
@@ -132,15 +122,8 @@ returns-clause-made g c edges t grid holds hot early =
     let p = g.G.VertexProgram.model c.args.program.now in
     let cut = c.args.layout.now.parts in
     let all : c.loop-j.j ≡ cut.parts = omega (arith, c.loop-j.auto.j-end, c.loop-j-test.false, c.parts-j-end.ensures.value) in
-    made_all p edges cut Fed false c.loop-j.j t c.loop-j.after c.loop-j.early c.loop-j.active.is_hot c.loop-j.counts grid.limits.some_parts all (c.loop-j.auto.after ∙ c.requires.after_fits)
-    (c.loop-j.invariant.made edges t grid holds hot early) (c.loop-j.invariant.hot edges t grid holds hot early) (c.loop-j.invariant.counted edges t grid hot) (λ on. absurd (cc))
-
-pub returns-clause-taken : goal.returns-clause-taken
-returns-clause-taken g c edges t grid holds hot early low =
-    let need = needs_by (g.G.VertexProgram.model c.args.program.now) edges c.args.layout.now.parts false t in
-    let cut = c.args.layout.now.parts in
-    let all : c.loop-j.j ≡ cut.parts = omega (arith, c.loop-j.auto.j-end, c.loop-j-test.false, c.parts-j-end.ensures.value) in
-    c.loop-j.invariant.taken edges t grid hot low ∙ ap (λ (k : ℕ). g.D.Depot.taken c.args.depot.now Secondary + bytes_of edges (chunk_of cut) need (places_below Fed cut.parts k)) all
+    made_all p edges cut false c.loop-j.j t c.loop-j.after c.loop-j.early c.loop-j.active.is_hot c.loop-j.counts grid.limits.some_parts all (c.loop-j.auto.after ∙ c.requires.after_fits)
+    (c.loop-j.invariant.made edges t grid holds hot early) (c.loop-j.invariant.hot edges t grid holds hot early) (λ on. absurd (cc))
 
 pub returns-in-Err-make_part-clause-made : goal.returns-in-Err-make_part-clause-made
 returns-in-Err-make_part-clause-made g c edges t grid holds hot early =
@@ -171,3 +154,10 @@ returns-in-Err-make_part-clause-made g c edges t grid holds hot early =
 pub returns-in-Err-make_part-clause-reads : goal.returns-in-Err-make_part-clause-reads
 returns-in-Err-make_part-clause-reads g c =
     reads_then g.D.Depot.holds g.D.Depot.taken g.D.Depot.stored g.D.Depot.faults g.D.Depot.attached Secondary _ _ _ c.loop-j.invariant.reads c.in-Ok.ensures.reads
+
+pub returns-clause-gone : goal.returns-clause-gone
+returns-clause-gone g c are size need is =
+    let cut = c.args.layout.now.parts in
+    let all : c.loop-j.j ≡ cut.parts = omega (arith, c.loop-j.auto.j-end, c.loop-j-test.false, c.parts-j-end.ensures.value) in
+    gone_as size need Fed (places_below Fed cut.parts c.loop-j.j) (passes Fed cut.parts) _ _ c.loop-j.counts (ap (λ (k : ℕ). places_below Fed cut.parts k) all)
+    (c.loop-j.invariant.gone are size need (λ i k row low. is i k row (omega (arith, low, all))))

@@ -1,14 +1,15 @@
-use Rattle.std.proofs.Common.{◌≡◌, ◌≤◌, ◌*◌, suc, false, drop, ℕ, List}
+use Rattle.std.proofs.Common.{◌≡◌, ◌<◌, ◌≤◌, ◌*◌, suc, Bool, false, drop, ℕ, List}
 use Rattle.lumos_base.specs.declared.records.Edge.{Edge}
 use Rattle.lumos_depot.specs.declared.depot.FileKind.TheVariants.{Secondary}
 use Rattle.lumos_law.specs.Sync.{values, IsChunk}
 use Rattle.lumos_report.specs.declared.records.Kind.TheVariants.{Fed}
 use Rattle.partition.specs.Parts.{chunk_of, first_vertex}
-use Rattle.lumos_depot.specs.Steps.{Reads, RoseBy}
+use Rattle.lumos_depot.specs.Steps.{Reads}
 use Rattle.early_engine.specs.Early.{early_sum}
+use Rattle.early_engine.specs.Gone.{AreOf, HasGone}
 use Rattle.early_engine.specs.Grids.{IsOnGrid}
-use Rattle.early_engine.specs.Passes.{bytes_of, places_below, tally_of}
-use Rattle.early_engine.specs.Steps.{AreHot, IsMadeBelow, blocks_in, needs_by}
+use Rattle.early_engine.specs.Passes.{Place, places_below}
+use Rattle.early_engine.specs.Steps.{AreHot, IsMadeBelow, blocks_in}
 use Rattle.early_engine.proofs.iteration.fed_iteration.Given as goal
 
 abbrev pub invariant-loop-j : goal.invariant-loop-j
@@ -26,8 +27,6 @@ invariant-loop-j g l =
       hot : (edges : List Edge) (t : ℕ) → IsOnGrid edges cut l.layout.table (g.D.Depot.holds l.fn.depot) → IsChunk (values p edges t) 0 l.before → AreHot p edges cut cut.parts t l.fn.active.was_hot
           → IsChunk (early_sum p edges (chunk_of cut) (values p edges t)) 0 l.fn.early → AreHot p edges cut l.j (suc t) l.active.is_hot;
       rest : (k : ℕ) → first_vertex cut.vertices (chunk_of cut) l.j ≤ k → drop k l.early ≡ drop k l.fn.early;
-      counted : (edges : List Edge) (t : ℕ) → IsOnGrid edges cut l.layout.table (g.D.Depot.holds l.fn.depot) → AreHot p edges cut cut.parts t l.fn.active.was_hot
-          → l.counts ≡ tally_of Fed edges (chunk_of cut) (needs_by p edges cut false t) (places_below Fed cut.parts l.j) l.counts.moved;
-      taken : (edges : List Edge) (t : ℕ) → IsOnGrid edges cut l.layout.table (g.D.Depot.holds l.fn.depot) → AreHot p edges cut cut.parts t l.fn.active.was_hot
-          → RoseBy (g.D.Depot.taken l.fn.depot Secondary) (g.D.Depot.taken l.depot Secondary) (bytes_of edges (chunk_of cut) (needs_by p edges cut false t) (places_below Fed cut.parts l.j));
+      gone : (are : List Bool) (size : Place → ℕ) (need : Place → Bool) → ((i k : ℕ) → i < cut.parts → k < l.j → AreOf l.layout.table l.fn.active.was_hot are false size need i k)
+          → HasGone Fed size need (places_below Fed cut.parts l.j) (g.D.Depot.taken l.fn.depot Secondary) (g.D.Depot.taken l.depot Secondary) l.counts;
     }

@@ -1,4 +1,4 @@
-use Rattle.std.proofs.Common.{◌≡◌, ℕ, suc, ◌+◌, ◌-◌, ◌<◌, ◌≤◌, ◌++◌, length, take, refl, sym, ap, ◌∙◌, subst, arith}
+use Rattle.std.proofs.Common.{◌≡◌, ℕ, suc, ◌+◌, ◌-◌, ◌<◌, ◌≤◌, ◌++◌, Bool, List, length, take, refl, sym, ap, ◌∙◌, subst, arith}
 use Rattle.std.proofs.lemmas.List.{length-take, length-drop, take_all}
 use Rattle.active_sets.specs.Active.{ActiveState}
 use Rattle.lumos_depot.specs.declared.depot.FileKind.TheVariants.{Primary}
@@ -8,15 +8,16 @@ use Rattle.partition.specs.Parts.{chunk_of, first_vertex, part_length}
 use Rattle.partition.specs.declared.records.VertexRange.{VertexRange}
 use Rattle.io_account.specs.declared.Counts.{Counts}
 use Rattle.early_engine.specs.Early.{early_sum}
-use Rattle.early_engine.specs.Passes.{bytes_of, is_hot, places, places_below, tally_of}
-use Rattle.early_engine.specs.Steps.{AreHot, IsMadeBelow, blocks_in, needs_by}
+use Rattle.early_engine.specs.Gone.{AreOf}
+use Rattle.early_engine.specs.Passes.{is_hot, passes, places, places_below}
+use Rattle.early_engine.specs.Steps.{AreHot, IsMadeBelow, blocks_in}
 use Rattle.early_engine.proofs.FeedLemmas.{early_made}
 use Rattle.early_engine.proofs.GridLemmas.{blocks_same, on_grid_same}
 use Rattle.early_engine.proofs.FlagLemmas.{marked}
-use Rattle.early_engine.proofs.HotLemmas.{ready_at}
+use Rattle.early_engine.proofs.HotLemmas.{of_before, ready_at}
 use Rattle.early_engine.proofs.MadeLemmas.{all_parts, chunk_put, column_chunk, made_all, made_none}
-use Rattle.lumos_depot.proofs.StepLemmas.{reads_none, reads_then, rose_whole}
-use Rattle.early_engine.proofs.PassLemmas.{below_more, bytes_both, tally_moved}
+use Rattle.lumos_depot.proofs.StepLemmas.{reads_none, reads_then}
+use Rattle.early_engine.proofs.PassLemmas.{below_more, gone_as, gone_moved, gone_none}
 use Rattle.early_engine.proofs.iteration.full_iteration.Goals as goal
 
 pub loop-j-init : goal.loop-j-init
@@ -34,8 +35,7 @@ loop-j-init g c =
       made = λ edges t grid holds hot. made_none p edges cut t c.args.after.now c.zero-counts.result.moved none;
       hot = λ edges t grid holds hot i below. absurd (omega arith);
       early = λ edges t grid holds hot on. subst (λ (k : ℕ). IsChunk (early_sum p edges (chunk_of cut) (values p edges (suc t))) 0 (take k c.args.early.now)) (sym first) (record { at = λ d k below. absurd (omega arith) });
-      counted = λ edges t grid holds hot. c.zero-counts.ensures ∙ ap (tally_of Full edges (chunk_of cut) (needs_by p edges cut c.args.ahead t) (places_below Full cut.parts 0)) (sym none);
-      taken = λ edges t grid holds hot low. omega arith;
+      gone = λ size need are. gone_none size need Full (g.D.Depot.taken c.args.depot.now Primary) c.zero-counts.result c.zero-counts.ensures;
     }
 
 pub feed_full-requires-clause-inside : goal.feed_full-requires-clause-inside
@@ -110,21 +110,14 @@ loop-j-preserved g c =
           let part = early_made p edges cut j (values p edges (suc t)) c.feed_full.new.early grid.limits.some_parts early_long fed in
           chunk_put (early_sum p edges (chunk_of cut) (values p edges (suc t))) c.loop-j.early c.feed_full.new.early first (past - first) (first_vertex n (chunk_of cut) j) (first_vertex n (chunk_of cut) (j + 1)) first_is
           (omega (arith, early_long, first_is, past_is, ordered)) (omega (arith, c.loop-j.auto.early, c.requires.early_fits, ordered, inside)) (kept.early edges t grid holds hot on) part;
-      counted = λ edges t grid holds hot.
-          let here = on_grid_same edges cut table _ _ kept.reads.contents grid in
-          let ready = ready_at p edges cut j t c.args.before.now c.loop-j.after c.args.active.now.was_hot c.loop-j.active.was_hot c.loop-j.active.is_hot kept.was_hot holds (kept.made edges t grid holds hot).chunk hot (kept.hot edges t grid holds hot) in
-          let need = needs_by p edges cut c.args.ahead t in
-          let more = c.in-Ok-make_part.end.moved in
-          added ∙ ap (λ (k : Counts). record k { moved = k.moved + more }) (next.counted edges t (places_below Full cut.parts j) c.loop-j.counts.moved here ready (kept.counted edges t grid holds hot))
-          ∙ tally_moved edges (chunk_of cut) need Full (places_below Full cut.parts j ++ places Full cut.parts j) c.loop-j.counts.moved more
-          ∙ ap (λ bs. tally_of Full edges (chunk_of cut) need bs (c.loop-j.counts.moved + more)) (sym (below_more Full cut.parts j))
-          ∙ ap (tally_of Full edges (chunk_of cut) need (places_below Full cut.parts (j + 1))) (sym moves);
-      taken = λ edges t grid holds hot.
-          let here = on_grid_same edges cut table _ _ kept.reads.contents grid in
-          let ready = ready_at p edges cut j t c.args.before.now c.loop-j.after c.args.active.now.was_hot c.loop-j.active.was_hot c.loop-j.active.is_hot kept.was_hot holds (kept.made edges t grid holds hot).chunk hot (kept.hot edges t grid holds hot) in
-          let need = needs_by p edges cut c.args.ahead t in
-          rose_whole _ _ _ (bytes_of edges (chunk_of cut) need (places_below Full cut.parts j)) (bytes_of edges (chunk_of cut) need (places Full cut.parts j)) _
-          (ap (bytes_of edges (chunk_of cut) need) (below_more Full cut.parts j) ∙ bytes_both edges (chunk_of cut) need (places_below Full cut.parts j) (places Full cut.parts j)) (kept.taken edges t grid holds hot) (next.taken edges t here ready);
+      gone = λ size need are.
+          let flags = c.loop-j.active.is_hot in
+          let same = ap (λ (s : ActiveState). s.is_hot) c.mark.ensures.set in
+          let before : (i k : ℕ) → i < cut.parts → k ≤ j → AreOf table c.args.active.now.was_hot flags c.args.ahead size need i k = λ i k within low. of_before table c.args.active.now.was_hot flags _ c.args.ahead size need j c.in-Ok-make_part.end.hot same i k low (are i k within (omega (arith, low))) in
+          let here : (i : ℕ) → i < cut.parts → AreOf table c.loop-j.active.was_hot flags c.args.ahead size need i j = λ i within. subst (λ (w : List Bool). AreOf table w flags c.args.ahead size need i j) (sym kept.was_hot) (before i j within (omega arith)) in
+          gone_moved size need Full (places_below Full cut.parts (j + 1)) _ _ c.in-Ok-make_part.end.moved c.feed_full.new.counts c.add_moved.new.self added
+          (gone_as size need Full (places_below Full cut.parts j ++ places Full cut.parts j) (places_below Full cut.parts (j + 1)) _ _ c.feed_full.new.counts (sym (below_more Full cut.parts j))
+          (next.gone size need (places_below Full cut.parts j) _ here (kept.gone size need (λ i k within low. before i k within (omega (arith, low))))));
     }
 
 pub returns-clause-made : goal.returns-clause-made
@@ -133,16 +126,9 @@ returns-clause-made g c edges t grid holds hot =
     let cut = c.args.layout.now.parts in
     let all : c.loop-j.j ≡ cut.parts = omega (arith, c.loop-j.auto.j-end, c.loop-j-test.false, c.parts-j-end.ensures.value) in
     let whole = all_parts cut c.loop-j.j grid.limits.some_parts all in
-    made_all p edges cut Full c.args.ahead c.loop-j.j t c.loop-j.after c.loop-j.early c.loop-j.active.is_hot c.loop-j.counts grid.limits.some_parts all (c.loop-j.auto.after ∙ c.requires.after_fits)
-    (c.loop-j.invariant.made edges t grid holds hot) (c.loop-j.invariant.hot edges t grid holds hot) (c.loop-j.invariant.counted edges t grid holds hot)
+    made_all p edges cut c.args.ahead c.loop-j.j t c.loop-j.after c.loop-j.early c.loop-j.active.is_hot c.loop-j.counts grid.limits.some_parts all (c.loop-j.auto.after ∙ c.requires.after_fits)
+    (c.loop-j.invariant.made edges t grid holds hot) (c.loop-j.invariant.hot edges t grid holds hot)
     (λ on. subst (IsChunk (early_sum p edges (chunk_of cut) (values p edges (suc t))) 0) (take_all (first_vertex cut.vertices (chunk_of cut) c.loop-j.j) c.loop-j.early (omega (arith, whole, c.loop-j.auto.early, c.requires.early_fits))) (c.loop-j.invariant.early edges t grid holds hot on))
-
-pub returns-clause-taken : goal.returns-clause-taken
-returns-clause-taken g c edges t grid holds hot low =
-    let need = needs_by (g.G.VertexProgram.model c.args.program.now) edges c.args.layout.now.parts c.args.ahead t in
-    let cut = c.args.layout.now.parts in
-    let all : c.loop-j.j ≡ cut.parts = omega (arith, c.loop-j.auto.j-end, c.loop-j-test.false, c.parts-j-end.ensures.value) in
-    c.loop-j.invariant.taken edges t grid holds hot low ∙ ap (λ (k : ℕ). g.D.Depot.taken c.args.depot.now Primary + bytes_of edges (chunk_of cut) need (places_below Full cut.parts k)) all
 
 pub returns-in-Err-make_part-clause-made : goal.returns-in-Err-make_part-clause-made
 returns-in-Err-make_part-clause-made g c edges t grid holds hot =
@@ -164,3 +150,10 @@ returns-in-Err-make_part-clause-made g c edges t grid holds hot =
 pub returns-in-Err-make_part-clause-reads : goal.returns-in-Err-make_part-clause-reads
 returns-in-Err-make_part-clause-reads g c =
     reads_then g.D.Depot.holds g.D.Depot.taken g.D.Depot.stored g.D.Depot.faults g.D.Depot.attached Primary _ _ _ c.loop-j.invariant.reads c.in-Ok.ensures.reads
+
+pub returns-clause-gone : goal.returns-clause-gone
+returns-clause-gone g c size need are =
+    let cut = c.args.layout.now.parts in
+    let all : c.loop-j.j ≡ cut.parts = omega (arith, c.loop-j.auto.j-end, c.loop-j-test.false, c.parts-j-end.ensures.value) in
+    gone_as size need Full (places_below Full cut.parts c.loop-j.j) (passes Full cut.parts) _ _ c.loop-j.counts (ap (λ (k : ℕ). places_below Full cut.parts k) all)
+    (c.loop-j.invariant.gone size need (λ i k row low. are i k row (omega (arith, low, all))))

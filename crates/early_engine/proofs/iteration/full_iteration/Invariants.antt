@@ -1,14 +1,15 @@
-use Rattle.std.proofs.Common.{◌≡◌, ◌≤◌, ◌*◌, suc, true, take, ℕ, List}
+use Rattle.std.proofs.Common.{◌≡◌, ◌<◌, ◌≤◌, ◌*◌, suc, Bool, true, take, ℕ, List}
 use Rattle.lumos_base.specs.declared.records.Edge.{Edge}
 use Rattle.lumos_depot.specs.declared.depot.FileKind.TheVariants.{Primary}
 use Rattle.lumos_law.specs.Sync.{values, IsChunk}
 use Rattle.lumos_report.specs.declared.records.Kind.TheVariants.{Full}
 use Rattle.partition.specs.Parts.{chunk_of, first_vertex}
-use Rattle.lumos_depot.specs.Steps.{Reads, RoseBy}
+use Rattle.lumos_depot.specs.Steps.{Reads}
 use Rattle.early_engine.specs.Early.{early_sum}
+use Rattle.early_engine.specs.Gone.{AreOf, HasGone}
 use Rattle.early_engine.specs.Grids.{IsOnGrid}
-use Rattle.early_engine.specs.Passes.{bytes_of, places_below, tally_of}
-use Rattle.early_engine.specs.Steps.{AreHot, IsMadeBelow, blocks_in, needs_by}
+use Rattle.early_engine.specs.Passes.{Place, places_below}
+use Rattle.early_engine.specs.Steps.{AreHot, IsMadeBelow, blocks_in}
 use Rattle.early_engine.proofs.iteration.full_iteration.Given as goal
 
 abbrev pub invariant-loop-j : goal.invariant-loop-j
@@ -27,8 +28,6 @@ invariant-loop-j g l =
           → AreHot p edges cut l.j (suc t) l.active.is_hot;
       early : (edges : List Edge) (t : ℕ) → IsOnGrid edges cut l.layout.table (g.D.Depot.holds l.fn.depot) → IsChunk (values p edges t) 0 l.before → AreHot p edges cut cut.parts t l.fn.active.was_hot
           → l.ahead ≡ true → IsChunk (early_sum p edges (chunk_of cut) (values p edges (suc t))) 0 (take (first_vertex cut.vertices (chunk_of cut) l.j) l.early);
-      counted : (edges : List Edge) (t : ℕ) → IsOnGrid edges cut l.layout.table (g.D.Depot.holds l.fn.depot) → IsChunk (values p edges t) 0 l.before → AreHot p edges cut cut.parts t l.fn.active.was_hot
-          → l.counts ≡ tally_of Full edges (chunk_of cut) (needs_by p edges cut l.ahead t) (places_below Full cut.parts l.j) l.counts.moved;
-      taken : (edges : List Edge) (t : ℕ) → IsOnGrid edges cut l.layout.table (g.D.Depot.holds l.fn.depot) → IsChunk (values p edges t) 0 l.before → AreHot p edges cut cut.parts t l.fn.active.was_hot
-          → RoseBy (g.D.Depot.taken l.fn.depot Primary) (g.D.Depot.taken l.depot Primary) (bytes_of edges (chunk_of cut) (needs_by p edges cut l.ahead t) (places_below Full cut.parts l.j));
+      gone : (size : Place → ℕ) (need : Place → Bool) → ((i k : ℕ) → i < cut.parts → k < l.j → AreOf l.layout.table l.fn.active.was_hot l.active.is_hot l.ahead size need i k)
+          → HasGone Full size need (places_below Full cut.parts l.j) (g.D.Depot.taken l.fn.depot Primary) (g.D.Depot.taken l.depot Primary) l.counts;
     }

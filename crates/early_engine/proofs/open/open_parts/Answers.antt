@@ -18,7 +18,8 @@ returns-clause-fits g c =
         vertices = omega (arith, vertices, head.vertices);
         blocks = read.blocks ∙ (λ i. sym parts i * sym parts i);
         few = omega (arith, read.whole, head.edges);
-        longest = λ i j row column. omega (arith, c.in-Ok-vec.ensures.len, c.longest.ensures i j row column);
+        longest = λ i j row column. omega (arith, c.in-Ok-vec.ensures.len, c.longest.ensures.bound i j row column);
+        least = λ bound all. omega (arith, c.in-Ok-vec.ensures.len, c.longest.ensures.least bound all);
       };
       before_fits = lists.before ∙ every;
       after_fits = lists.after ∙ every;

@@ -122,3 +122,19 @@ returns-clause-hot g c edges t holds sums =
     let end = c.finalise-end.ensures.step old (sum_at p edges old) part there in
     let long : length (take (past - first) (drop first c.args.before.now)) ≡ part_length n (chunk_of cut) c.args.j = omega (arith, piece, first_is, past_is) in
     ap (λ (f : Finish). f.hot) end.1 ∙ (λ i. (finish_of p old (sum_at p edges old) (first_is i) (long i)).hot)
+
+pub returns-in-Some-clause-over : goal.returns-in-Some-clause-over
+returns-in-Some-clause-over g c =
+    let p = g.G.VertexProgram.model c.args.program.now in
+    let cut = c.args.layout.now.parts in
+    let first = c.range_of-range.result.first in
+    let past = c.range_of-range.result.past in
+    let ordered : first ≤ past = c.range_of-range.ensures.ordered in
+    let inside : past ≤ cut.vertices = c.range_of-range.ensures.inside in
+    let first_is : first ≡ first_vertex cut.vertices (chunk_of cut) c.args.j = ap (λ (r : VertexRange). r.first) c.range_of-range.ensures.value in
+    let past_is : past ≡ first_vertex cut.vertices (chunk_of cut) (c.args.j + 1) = ap (λ (r : VertexRange). r.past) c.range_of-range.ensures.value in
+    let part = take (past - first) (drop first c.args.before.now) in
+    let piece : length part ≡ past - first = simp (length-take, length-drop) (omega (arith, ordered, inside, c.requires.before_fits)) in
+    let fit : length c.args.sums.now ≡ length part = omega (arith, piece, c.requires.sums_fit, first_is, past_is) in
+    let high = over_high p first part c.args.sums.now fit c.finalise-end.result c.in-Some.vertex c.in-Some.is (λ state sum a b. (c.finalise-end.ensures.step state sum a b).1) in
+    (omega (arith, high, piece, ordered, inside), c.see_over.ensures)

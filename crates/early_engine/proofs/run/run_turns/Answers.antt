@@ -7,11 +7,11 @@ use Rattle.early_engine.specs.Passes.{kind_of}
 use Rattle.early_engine.specs.Runs.{RunComes}
 use Rattle.early_engine.specs.Turns.{HasTurned, phase_after}
 use Rattle.early_engine.specs.declared.options.RunOptions.{RunOptions}
-use Rattle.early_engine.specs.Reported.{IsReported}
+use Rattle.early_engine.specs.Gone.{IsTallied}
 use Rattle.early_engine.proofs.Repeats.{texts}
 use Rattle.early_engine.proofs.ReportLemmas.{went_last, went_more}
-use Rattle.early_engine.proofs.RunLemmas.{end_of, ended_comes, going_text, key_of, later_of, lines_of, primary_at, same_key, same_run, secondary_at, stopped_comes}
-use Rattle.early_engine.proofs.TakenLemmas.{infos_stay, rose_more, streams_blocks, streams_then}
+use Rattle.early_engine.proofs.RunLemmas.{end_of, ended_comes, going_text, key_of, later_of, lines_of, primary_at, same_key, same_run, secondary_at, stopped_comes, turn_shows, turn_tallied}
+use Rattle.early_engine.proofs.TakenLemmas.{infos_stay, rose_more, streams_more}
 use Rattle.early_engine.proofs.run.run_turns.Goals as goal
 
 pub returns-in-Ok-Ended-clause-told : goal.returns-in-Ok-Ended-clause-told
@@ -36,10 +36,26 @@ returns-in-Ok-Ended-clause-reported g c =
     let w = c.loop-turn.engine in
     let kept = c.loop-turn.invariant in
     let k = key_of c.args.engine.now in
-    let made = subst (λ (k : _). IsReported (model k.program) k.options.show k.options.mode k.options.iterations k.info.vertices (w.finished + 1) c.turn.new.self.values (g.O.Sink.written c.loop-turn.out) (g.O.Sink.written c.turn.new.out) c.in-Ok-Ended.field-0)
-    (same_key c.args.engine.now w kept.same) c.in-Ok-Ended.ensures.reported in
-    went_last (model k.program) k.options.show k.options.mode k.options.iterations k.info.vertices c.loop-turn.turn (w.finished + 1) c.turn.new.self.values _ _ _ c.in-Ok-Ended.field-0 c.in-Ok-Ended.ending
+    let made = turn_tallied model c.args.engine.now w kept.same c.turn.new.self.values c.turn.new.self.active _ _ _ _ c.in-Ok-Ended.field-0 c.in-Ok-Ended.ensures.reported in
+    went_last (model k.program) k.options.show k.options.mode k.options.iterations k.info.vertices (IsTallied k.options.mode k.table) c.loop-turn.turn (w.finished + 1) c.turn.new.self.values _ _ _ c.in-Ok-Ended.field-0 c.in-Ok-Ended.ending
     (ap (λ (t : ℕ). t + 1) kept.counted) (omega (arith, kept.left, kept.counted, c.requires.all)) c.in-Ok-Ended.field-0-is kept.reports made
+
+pub returns-in-Ok-Ended-clause-streams : goal.returns-in-Ok-Ended-clause-streams
+returns-in-Ok-Ended-clause-streams g c =
+    let kept = c.loop-turn.invariant in
+    streams_more g.D.Depot.holds g.D.Depot.taken g.D.Depot.stored g.D.Depot.faults g.D.Depot.attached c.args.engine.now.options.mode c.loop-turn.engine.options.mode c.args.engine.now.options.iterations (c.loop-turn.engine.finished + 1) _ _ _
+    (ap (λ (o : RunOptions). o.mode) kept.same.options) (omega arith) (omega (arith, kept.left, c.requires.all)) kept.streams c.in-Ok-Ended.ensures.reads
+
+pub returns-in-Err-clause-streams : goal.returns-in-Err-clause-streams
+returns-in-Err-clause-streams g c =
+    let kept = c.loop-turn.invariant in
+    streams_more g.D.Depot.holds g.D.Depot.taken g.D.Depot.stored g.D.Depot.faults g.D.Depot.attached c.args.engine.now.options.mode c.loop-turn.engine.options.mode c.args.engine.now.options.iterations (c.loop-turn.engine.finished + 1) _ _ _
+    (ap (λ (o : RunOptions). o.mode) kept.same.options) (omega arith) (omega (arith, kept.left, c.requires.all)) kept.streams c.in-Err.ensures.reads
+
+pub returns-in-Err-clause-shows : goal.returns-in-Err-clause-shows
+returns-in-Err-clause-shows g c =
+    let kept = c.loop-turn.invariant in
+    turn_shows g.G.VertexProgram.model c.args.engine.now c.loop-turn.engine kept.same g.G.Value.Fixed.is_in_range g.G.Sum.Fixed.is_in_range c.in-Err.fault (omega (arith, kept.left, c.requires.all)) c.in-Err.ensures.shows
 
 pub returns-in-Ok-Ended-clause-primary : goal.returns-in-Ok-Ended-clause-primary
 returns-in-Ok-Ended-clause-primary g c edges stands =
@@ -98,8 +114,8 @@ loop-turn-preserved g c =
     let low = next.left going in
     let kind = kind_of w.options.mode (w.finished + 1) in
     record {
-      streams = streams_then g.D.Depot.holds g.D.Depot.taken g.D.Depot.stored g.D.Depot.faults g.D.Depot.attached _ _ _ kept.streams
-          (streams_blocks g.D.Depot.holds g.D.Depot.taken g.D.Depot.stored g.D.Depot.faults g.D.Depot.attached kind _ _ next.reads);
+      streams = streams_more g.D.Depot.holds g.D.Depot.taken g.D.Depot.stored g.D.Depot.faults g.D.Depot.attached c.args.engine.now.options.mode w.options.mode c.args.engine.now.options.iterations (w.finished + 1) _ _ _
+          (ap (λ (o : RunOptions). o.mode) kept.same.options) (omega arith) (omega (arith, kept.left, c.requires.all)) kept.streams next.reads;
       infos = infos_stay g.D.Depot.holds g.D.Depot.taken g.D.Depot.stored g.D.Depot.faults g.D.Depot.attached kind _ _ next.reads ∙ kept.infos;
       later = omega (arith, kept.later, next.later);
       going = going;
@@ -108,9 +124,8 @@ loop-turn-preserved g c =
       left = omega (arith, low, ap (λ (o : RunOptions). o.iterations) same.options, c.requires.all);
       reports =
           let k = key_of c.args.engine.now in
-          let made = subst (λ (k : _). IsReported (model k.program) k.options.show k.options.mode k.options.iterations k.info.vertices (w.finished + 1) new.values (g.O.Sink.written c.loop-turn.out) (g.O.Sink.written c.turn.new.out) c.in-Ok-Going.field-0)
-          (same_key c.args.engine.now w kept.same) next.reported in
-          went_more (model k.program) k.options.show k.options.mode k.options.iterations k.info.vertices c.loop-turn.turn (w.finished + 1) new.values _ _ _ c.in-Ok-Going.field-0
+          let made = turn_tallied model c.args.engine.now w kept.same new.values new.active _ _ _ _ c.in-Ok-Going.field-0 next.reported in
+          went_more (model k.program) k.options.show k.options.mode k.options.iterations k.info.vertices (IsTallied k.options.mode k.table) c.loop-turn.turn (w.finished + 1) new.values _ _ _ c.in-Ok-Going.field-0
           (ap (λ (t : ℕ). t + 1) kept.counted) c.in-Ok-Going.field-0-is kept.reports made;
       running = λ edges stands.
           let told = g.D.Depot.holds c.loop-turn.depot in

@@ -96,7 +96,6 @@ returns-in-Ok-write_grid-clause-limits g c =
     let some = c.requires.some_parts in
     let few = c.requires.few_parts in
     subst IsHead (sym c.in-Ok-write_grid.ensures.head) (record {
-      version = refl;
       some_parts = omega (arith, parts, some);
       few_parts = omega (arith, parts, few);
       vertices = omega (arith, vertices, bounds.0);

@@ -26,7 +26,7 @@ is_read edges n p h =
     let read = counts_read info all p (length-counts edges c p) (omega (arith, sums, h.few)) in
     record {
       head = head_whole (grid edges n p) info
-          (fields_read info all (record { version = refl; some_parts = h.some_parts; few_parts = h.few_parts; vertices = h.vertices; edges = h.few }))
+          (fields_read info all refl (record { some_parts = h.some_parts; few_parts = h.few_parts; vertices = h.vertices; edges = h.few }))
           (length-meta info all ∙ ap (λ (k : ℕ). 32 + 8 * k) (length-counts edges c p))
           (ap (counted (length edges)) read ∙ counted_all (length edges) all sums)
           (length-each edge_bytes 12 (columns edges c p) (λ e. refl) ∙ ap (λ (k : ℕ). 12 * k) whole)

@@ -1,4 +1,4 @@
-use Rattle.std.proofs.Common.{◌≡◌, ◌<◌, ◌≤◌, ◌+◌, ◌-◌, ◌*◌, ◌++◌, inl, inr, sym, ap, ◌∙◌, arith, Result, Err, ℕ, List, Some, append-nil, append_assoc}
+use Rattle.std.proofs.Common.{◌≡◌, ◌<◌, ◌+◌, ◌-◌, ◌*◌, ◌++◌, inl, inr, sym, ap, ◌∙◌, arith, Result, Err, ℕ, List, Some, append-nil, append_assoc}
 use Rattle.std.proofs.Math.Nat.{add-mul}
 use Rattle.std.proofs.lemmas.Result.{err_from_is_err_and}
 use Rattle.lumos_depot.specs.declared.depot.FileKind.TheVariants.{Meta}
@@ -8,7 +8,7 @@ use Rattle.grid_format.specs.Tables.{IsWrongCount}
 use Rattle.grid_format.specs.declared.counts.Mismatch.{Mismatch}
 use Rattle.grid_format.proofs.Answering.{damaged_then}
 use Rattle.lumos_depot.proofs.StepLemmas.{reads_then}
-use Rattle.grid_format.proofs.NumberLemmas.{columns_end, columns_split, numbers_split}
+use Rattle.grid_format.proofs.NumberLemmas.{columns_end, columns_split, in_square, numbers_split}
 use Rattle.grid_format.proofs.table.load_columns.Goals as goal
 
 pub returns-in_err-total-clause-damaged : goal.returns-in_err-total-clause-damaged
@@ -17,11 +17,11 @@ returns-in_err-total-clause-damaged g c =
     let edges = c.args.info.edges in
     let parts = c.args.info.parts in
     let j = c.loop-j.j in
-    let P : ℕ → ℕ → Type 0 = λ place n. (32 ≤ place) × (0 < n) × ((meta : List ℕ) → g.D.Depot.holds c.loop-j.depot Meta ≡ Some meta → added edges (32 + 8 * (j * parts)) c.loop-j.total (numbers (32 + 8 * (j * parts)) parts meta) ≡ Err (record { place = place; found = n })) in
-    let Q : ℕ → ℕ → Type 0 = λ place n. IsWrongCount edges place n × ((meta : List ℕ) → g.D.Depot.holds c.args.depot.now Meta ≡ Some meta → counted edges (counts_of parts meta) ≡ Err (record { place = place; found = n })) in
+    let P : ℕ → ℕ → Type 0 = λ place n. (0 < n) × ((k : ℕ) × (k < parts) × (place ≡ 32 + 8 * (j * parts) + 8 * k)) × ((meta : List ℕ) → g.D.Depot.holds c.loop-j.depot Meta ≡ Some meta → added edges (32 + 8 * (j * parts)) c.loop-j.total (numbers (32 + 8 * (j * parts)) parts meta) ≡ Err (record { place = place; found = n })) in
+    let Q : ℕ → ℕ → Type 0 = λ place n. IsWrongCount c.args.info place n × ((meta : List ℕ) → g.D.Depot.holds c.args.depot.now Meta ≡ Some meta → counted edges (counts_of parts meta) ≡ Err (record { place = place; found = n })) in
     rw (p.1, p.2) (damaged_then c.in_err-total.field-0.0 P Q c.in_err-total.ensures.damaged (λ place n q.
     let next : List ℕ → ℕ → Result ℕ Mismatch = λ meta t. added edges (32 + 8 * ((j + 1) * parts)) t (numbers (32 + 8 * ((j + 1) * parts)) (parts * parts - (j + 1) * parts) meta) in (
-      (q.1, inr q.0),
+      (q.0, inr (j * parts + q.1.0, in_square parts j q.1.0 c.loop-j-test.true q.1.1, omega (arith, q.1.2))),
       λ meta is.
           ap (λ r. r >>= reached edges) (c.loop-j.invariant.rest meta is ∙ columns_split edges parts j c.loop-j.total meta c.loop-j-test.true)
           ∙ ap (λ r. (r >>= next meta) >>= reached edges) (q.2 meta (c.loop-j.invariant.reads.contents Meta ∙ is)),

@@ -3,8 +3,9 @@ use Rattle.std.proofs.Common.{Ok, Err, sym, subst}
 use Rattle.lumos_depot.specs.declared.depot.FileKind.TheVariants.{Meta, Primary, Secondary}
 use Rattle.lumos_law.specs.Sync.{ending}
 use Rattle.lumos_depot.specs.Steps.{RoseBy}
+use Rattle.early_engine.specs.Engines.{cut_in}
 use Rattle.early_engine.specs.Making.{IsOver}
-use Rattle.early_engine.specs.Turns.{RunIsOver}
+use Rattle.early_engine.specs.Turns.{SomeShows}
 use Rattle.early_engine.specs.Passes.{primary_taken, secondary_taken}
 use Rattle.early_engine.specs.Report.{report}
 use Rattle.early_engine.specs.Reported.{IsReport}
@@ -67,14 +68,14 @@ returns-in-Ok-run-clause-runs g c =
     let h = g.D.Depot.holds in
     let t = g.D.Depot.taken in
     let s = g.D.Depot.stored in
-    leaves_then h t s _ _ _ (open_leaves h t s g.D.Depot.faults g.D.Depot.attached _ _ c.open.ensures.reads) (run_leaves_files h t s g.D.Depot.faults g.D.Depot.attached _ _ c.run.ensures.streams)
+    leaves_then h t s _ _ _ (open_leaves h t s g.D.Depot.faults g.D.Depot.attached _ _ c.open.ensures.reads) (run_leaves_files h t s g.D.Depot.faults g.D.Depot.attached _ _ _ _ c.run.ensures.streams)
 
 pub returns-in-Err-run-clause-runs : goal.returns-in-Err-run-clause-runs
 returns-in-Err-run-clause-runs g c =
     let h = g.D.Depot.holds in
     let t = g.D.Depot.taken in
     let s = g.D.Depot.stored in
-    leaves_then h t s _ _ _ (open_leaves h t s g.D.Depot.faults g.D.Depot.attached _ _ c.open.ensures.reads) (run_leaves_files h t s g.D.Depot.faults g.D.Depot.attached _ _ c.run.ensures.streams)
+    leaves_then h t s _ _ _ (open_leaves h t s g.D.Depot.faults g.D.Depot.attached _ _ c.open.ensures.reads) (run_leaves_files h t s g.D.Depot.faults g.D.Depot.attached _ _ _ _ c.run.ensures.streams)
 
 pub returns-in-Err-clause-damaged : goal.returns-in-Err-clause-damaged
 returns-in-Err-clause-damaged g c = damaged_open c.args.info (g.D.Depot.holds c.args.depot.now Meta) c.in-Err.fault _ c.open_stop.ensures c.in-Err.ensures.damaged

@@ -1,13 +1,16 @@
-use Rattle.std.proofs.Common.{◌≡◌, ℕ, refl, sym, subst}
-use Rattle.std.specs.Prelude.{IfOk}
+use Rattle.std.proofs.Common.{◌≡◌, ◌<◌, ℕ, refl, sym, subst}
+use Rattle.std.specs.Prelude.{IfErr, IfOk}
 use Rattle.lumos_depot.specs.declared.depot.FileKind.TheVariants.{Primary, Secondary}
 use Rattle.lumos_depot.specs.Steps.{RoseBy}
 use Rattle.early_engine.specs.Engines.{IsStanding, cut_in}
 use Rattle.early_engine.specs.Report.{first_lines}
-use Rattle.early_engine.specs.Runs.{RunComes}
+use Rattle.early_engine.specs.Gone.{IsTallied}
+use Rattle.early_engine.specs.Runs.{RunComes, Streams}
+use Rattle.early_engine.specs.Turns.{SomeShows}
+use Rattle.early_engine.specs.declared.options.RunOptions.{RunOptions}
 use Rattle.early_engine.specs.Reported.{AreEnded}
 use Rattle.early_engine.proofs.ReportLemmas.{report_if}
-use Rattle.early_engine.proofs.RunLemmas.{end_of, key_of, later_of, primary_in, run_stops, run_then, same_key, secondary_in}
+use Rattle.early_engine.proofs.RunLemmas.{end_of, key_of, later_of, outside_shows, primary_in, run_stops, run_then, same_key, secondary_in}
 use Rattle.early_engine.proofs.TakenLemmas.{streams_infos, streams_then}
 use Rattle.early_engine.proofs.engine.Engine.run.Goals as goal
 
@@ -33,8 +36,8 @@ returns-in-Ok-clause-reported g c =
     let new = c.begin.new.self in
     let mid = g.O.Sink.written c.begin.new.out in
     let after = g.O.Sink.written c.run_turns.new.out in
-    let rest = subst (λ k. IfOk c.run_turns.result (AreEnded (model k.program) k.options.show k.options.mode k.options.iterations k.info.vertices mid after)) (same_key w new c.in-Ok.ensures.same) c.run_turns.ensures.reported in
-    report_if (model w.program) (g.G.VertexProgram.name_text w.program) w.options.show w.options.mode w.options.iterations w.info new.values (g.O.Sink.written c.args.out.now) mid after c.run_turns.result c.in-Ok.ensures.opened rest
+    let rest = subst (λ k. IfOk c.run_turns.result (AreEnded (model k.program) k.options.show k.options.mode k.options.iterations k.info.vertices (IsTallied k.options.mode k.table) mid after)) (same_key w new c.in-Ok.ensures.same) c.run_turns.ensures.reported in
+    report_if (model w.program) (g.G.VertexProgram.name_text w.program) w.options.show w.options.mode w.options.iterations w.info w.table new.values (g.O.Sink.written c.args.out.now) mid after c.run_turns.result c.in-Ok.ensures.opened rest
 
 pub returns-in-Ok-clause-primary : goal.returns-in-Ok-clause-primary
 returns-in-Ok-clause-primary g c edges opened =
@@ -66,8 +69,27 @@ returns-in-Ok-clause-secondary g c edges opened =
 
 pub returns-in-Ok-clause-streams : goal.returns-in-Ok-clause-streams
 returns-in-Ok-clause-streams g c =
-    streams_then g.D.Depot.holds g.D.Depot.taken g.D.Depot.stored g.D.Depot.faults g.D.Depot.attached _ _ _
-    (streams_infos g.D.Depot.holds g.D.Depot.taken g.D.Depot.stored g.D.Depot.faults g.D.Depot.attached _ _ c.in-Ok.ensures.reads) c.run_turns.ensures.streams
+    let w = c.args.self in
+    let new = c.begin.new.self in
+    streams_then g.D.Depot.holds g.D.Depot.taken g.D.Depot.stored g.D.Depot.faults g.D.Depot.attached w.options.mode w.options.iterations _ _ _
+    (streams_infos g.D.Depot.holds g.D.Depot.taken g.D.Depot.stored g.D.Depot.faults g.D.Depot.attached w.options.mode w.options.iterations _ _ c.in-Ok.ensures.reads)
+    (subst (λ k. Streams g.D.Depot.holds g.D.Depot.taken g.D.Depot.stored g.D.Depot.faults g.D.Depot.attached k.options.mode k.options.iterations c.begin.new.depot c.run_turns.new.depot) (same_key w new c.in-Ok.ensures.same) c.run_turns.ensures.streams)
+
+pub returns-in-Ok-clause-shows : goal.returns-in-Ok-clause-shows
+returns-in-Ok-clause-shows g c =
+    let w = c.args.self in
+    let new = c.begin.new.self in
+    subst (λ k. IfErr c.run_turns.result (SomeShows g.G.Value.Fixed.is_in_range g.G.Sum.Fixed.is_in_range (g.G.VertexProgram.model k.program) k.options.mode k.options.iterations (cut_in k.info) k.table)) (same_key w new c.in-Ok.ensures.same) c.run_turns.ensures.shows
+
+pub returns-clause-streams : goal.returns-clause-streams
+returns-clause-streams g c =
+    streams_infos g.D.Depot.holds g.D.Depot.taken g.D.Depot.stored g.D.Depot.faults g.D.Depot.attached c.args.self.options.mode c.args.self.options.iterations _ _ c.in-Err.ensures.reads
+
+pub returns-clause-shows : goal.returns-clause-shows
+returns-clause-shows g c =
+    let w = c.args.self in
+    outside_shows g.G.Value.Fixed.is_in_range g.G.Sum.Fixed.is_in_range (g.G.VertexProgram.model w.program) w.options.mode w.options.iterations (cut_in w.info) w.table c.in-Err.fault
+    (subst (λ (o : RunOptions). 0 < o.iterations) c.in-Err.ensures.same.options c.in-Err.ensures.some) c.in-Err.ensures.outside
 
 pub returns-clause-told : goal.returns-clause-told
 returns-clause-told g c edges opened =

@@ -3,9 +3,10 @@ use Rattle.lumos_depot.specs.declared.depot.FileKind.TheVariants.{Primary, Secon
 use Rattle.partition.specs.Parts.{Cut}
 use Rattle.lumos_depot.specs.Steps.{RoseBy}
 use Rattle.early_engine.specs.Engines.{IsStanding, cut_in}
-use Rattle.early_engine.specs.Passes.{primary_bytes, secondary_bytes}
+use Rattle.early_engine.specs.Gone.{HasPassed}
+use Rattle.early_engine.specs.Passes.{file_of, kind_of, primary_bytes, secondary_bytes}
 use Rattle.early_engine.specs.Reported.{IsReported, TurnReports}
-use Rattle.early_engine.specs.Turns.{HasTurned, TurnComes, phase_after}
+use Rattle.early_engine.specs.Turns.{HasTurned, RunShows, TurnComes, phase_after}
 use Rattle.early_engine.specs.declared.options.Turn.TheVariants.{Going}
 use Rattle.early_engine.proofs.StandLemmas.{core_turned, stands_again, stood, turn_comes}
 use Rattle.early_engine.proofs.engine.Engine.turn.Goals as goal
@@ -36,25 +37,21 @@ returns-in-Err-clause-told g c edges =
 
 pub returns-in-Ok-clause-reported : goal.returns-in-Ok-clause-reported
 returns-in-Ok-clause-reported g c =
-    let model = g.G.VertexProgram.model in
     let here = c.self.inside in
-    let items = c.make_turn.new.room.before.items in
-    let held = g.O.Sink.written c.args.out.now in
-    let after = g.O.Sink.written c.make_turn.new.out in
-    let turn = c.in-Ok.turn in
-    subst (λ w. IsReported (model w.program) w.options.show w.options.mode w.options.iterations w.info.vertices (w.finished + 1) items held after turn) c.self.view_is
-    (subst (λ (k : Cut). IsReported (model here.program) here.options.show here.options.mode here.options.iterations k.vertices (here.finished + 1) items held after turn) c.self.invariant.cut_fits c.in-Ok.ensures.reported)
+    subst (λ w. IsReported (g.G.VertexProgram.model w.program) w.options.show w.options.mode w.options.iterations w.info.vertices (λ t. HasPassed w.options.mode w.options.iterations w.table w.active c.make_turn.new.room.active.was_hot t (g.D.Depot.taken c.args.depot.now (file_of (kind_of w.options.mode (w.finished + 1)))) (g.D.Depot.taken c.make_turn.new.depot (file_of (kind_of w.options.mode (w.finished + 1))))) (w.finished + 1) c.make_turn.new.room.before.items (g.O.Sink.written c.args.out.now) (g.O.Sink.written c.make_turn.new.out) c.in-Ok.turn) c.self.view_is
+    (subst (λ (k : Cut). IsReported (g.G.VertexProgram.model here.program) here.options.show here.options.mode here.options.iterations k.vertices (λ t. HasPassed here.options.mode here.options.iterations here.layout.table here.room.active.was_hot c.make_turn.new.room.active.was_hot t (g.D.Depot.taken c.args.depot.now (file_of (kind_of here.options.mode (here.finished + 1)))) (g.D.Depot.taken c.make_turn.new.depot (file_of (kind_of here.options.mode (here.finished + 1))))) (here.finished + 1) c.make_turn.new.room.before.items (g.O.Sink.written c.args.out.now) (g.O.Sink.written c.make_turn.new.out) c.in-Ok.turn) c.self.invariant.cut_fits c.in-Ok.ensures.reported)
 
 pub returns-in-Err-clause-reported : goal.returns-in-Err-clause-reported
 returns-in-Err-clause-reported g c =
-    let model = g.G.VertexProgram.model in
     let here = c.self.inside in
-    let items = c.make_turn.new.room.before.items in
-    let held = g.O.Sink.written c.args.out.now in
-    let after = g.O.Sink.written c.make_turn.new.out in
-    let fault = c.in-Err.fault in
-    subst (λ w. TurnReports (model w.program) w.options.show w.options.mode w.options.iterations w.info.vertices (w.finished + 1) items held after (Err fault)) c.self.view_is
-    (subst (λ (k : Cut). TurnReports (model here.program) here.options.show here.options.mode here.options.iterations k.vertices (here.finished + 1) items held after (Err fault)) c.self.invariant.cut_fits c.in-Err.ensures.reported)
+    subst (λ w. TurnReports (g.G.VertexProgram.model w.program) w.options.show w.options.mode w.options.iterations w.info.vertices (λ t. HasPassed w.options.mode w.options.iterations w.table w.active c.make_turn.new.room.active.was_hot t (g.D.Depot.taken c.args.depot.now (file_of (kind_of w.options.mode (w.finished + 1)))) (g.D.Depot.taken c.make_turn.new.depot (file_of (kind_of w.options.mode (w.finished + 1))))) (w.finished + 1) c.make_turn.new.room.before.items (g.O.Sink.written c.args.out.now) (g.O.Sink.written c.make_turn.new.out) (Err c.in-Err.fault)) c.self.view_is
+    (subst (λ (k : Cut). TurnReports (g.G.VertexProgram.model here.program) here.options.show here.options.mode here.options.iterations k.vertices (λ t. HasPassed here.options.mode here.options.iterations here.layout.table here.room.active.was_hot c.make_turn.new.room.active.was_hot t (g.D.Depot.taken c.args.depot.now (file_of (kind_of here.options.mode (here.finished + 1)))) (g.D.Depot.taken c.make_turn.new.depot (file_of (kind_of here.options.mode (here.finished + 1))))) (here.finished + 1) c.make_turn.new.room.before.items (g.O.Sink.written c.args.out.now) (g.O.Sink.written c.make_turn.new.out) (Err c.in-Err.fault)) c.self.invariant.cut_fits c.in-Err.ensures.reported)
+
+pub returns-in-Err-clause-shows : goal.returns-in-Err-clause-shows
+returns-in-Err-clause-shows g c =
+    let here = c.self.inside in
+    subst (λ w. RunShows g.G.Value.Fixed.is_in_range g.G.Sum.Fixed.is_in_range (g.G.VertexProgram.model w.program) w.options.mode (cut_in w.info) w.table (w.finished + 1) c.in-Err.fault) c.self.view_is
+    (subst (λ (k : Cut). RunShows g.G.Value.Fixed.is_in_range g.G.Sum.Fixed.is_in_range (g.G.VertexProgram.model here.program) here.options.mode k here.layout.table (here.finished + 1) c.in-Err.fault) c.self.invariant.cut_fits c.in-Err.ensures.shows)
 
 pub returns-in-Ok-clause-stands : goal.returns-in-Ok-clause-stands
 returns-in-Ok-clause-stands g c edges stands going =

@@ -18,8 +18,8 @@ returns-in_err-load_columns-clause-damaged g c =
     let p = err_from_is_err_and c.from_residual.result c.from_residual.ensures.1 in
     let edges = c.args.info.edges in
     let parts = c.args.info.parts in
-    let P : ℕ → ℕ → Type 0 = λ place n. IsWrongCount edges place n × ((meta : List ℕ) → g.D.Depot.holds c.args.depot.now Meta ≡ Some meta → counted edges (counts_of parts meta) ≡ Err (record { place = place; found = n })) in
-    let Q : ℕ → ℕ → Type 0 = λ place n. IsWrongCount edges place n × (g.D.Depot.holds c.args.depot.now Meta ≡ None) in
+    let P : ℕ → ℕ → Type 0 = λ place n. IsWrongCount c.args.info place n × ((meta : List ℕ) → g.D.Depot.holds c.args.depot.now Meta ≡ Some meta → counted edges (counts_of parts meta) ≡ Err (record { place = place; found = n })) in
+    let Q : ℕ → ℕ → Type 0 = λ place n. IsWrongCount c.args.info place n × (g.D.Depot.holds c.args.depot.now Meta ≡ None) in
     rw (p.1, p.2) (damaged_then c.in_err-load_columns.field-0.0 P Q c.in_err-load_columns.ensures.damaged (λ place n q. (
       q.0,
       none_from (g.D.Depot.holds c.args.depot.now Meta) (λ meta is.

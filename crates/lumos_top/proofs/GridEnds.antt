@@ -29,8 +29,9 @@ use Rattle.lumos_report.specs.declared.records.Ending.{Ending as EndingRecord}
 use Rattle.lumos_report.specs.declared.records.Why.{Why}
 use Rattle.lumos_report.specs.declared.records.Why.TheVariants.{Still, Limit}
 use Rattle.early_engine.specs.Engines.{EngineState, IsOpened, cut_in}
-use Rattle.early_engine.specs.Grids.{IsStrayWord}
-use Rattle.early_engine.specs.Passes.{primary_taken, secondary_taken}
+use Rattle.lumos_report.specs.declared.records.Kind.{Kind}
+use Rattle.lumos_report.specs.declared.records.Kind.TheVariants.{Full, Fed}
+use Rattle.early_engine.specs.Passes.{file_of, kind_of, primary_taken, secondary_taken}
 use Rattle.early_engine.specs.Opens.{OpenShows}
 use Rattle.early_engine.specs.Report.{finished, report}
 use Rattle.early_engine.specs.Reported.{IsReport}
@@ -48,7 +49,7 @@ use Rattle.lumos_top.specs.Outcome.{Did, Ran, answer, answer_to, did_build, did_
 use Rattle.lumos_top.specs.Replays.{Streamed, streamed}
 use Rattle.lumos_top.specs.Words.{request}
 use Rattle.lumos_top.specs.Report.{grid_line}
-use Rattle.lumos_top.specs.Running.{BuiltAs, EndShown, Ends, HasDone, HasGridBuilt, IfDamaged, IsGridOf, IsOverIn, IsReportOf, IsWrongIn, Leaves, LeavesRuns, RoseBoth, RunTakes, Sides, Takes, TakesAs, WhereTold, ended_why, ending_of, ending_told, OpenStops, run_stop_of}
+use Rattle.lumos_top.specs.Running.{BuiltAs, EndShown, Ends, HasDone, HasGridBuilt, IfDamaged, IsGridOf, IsOverAt, IsOverIn, IsReportOf, IsWrongIn, Leaves, LeavesRuns, RoseBoth, RunTakes, Sides, Takes, TakesAs, WhereTold, ended_why, ending_of, ending_told, OpenStops, run_stop_of}
 use Rattle.lumos_top.specs.declared.status.Completed.{Completed}
 use Rattle.lumos_top.specs.declared.status.Completed.TheVariants.{Run, Build}
 use Rattle.lumos_top.specs.declared.status.Ended.{Ended}
@@ -310,13 +311,13 @@ abbrev pub completed_run : Result Ended Stop → Result Completed Stop
 completed_run (Ok end) = Ok (Run end)
 completed_run (Err why) = Err why
 
-ran_ends : (program : ProgramName) (iterations : ℕ) (mode : Mode) (limits : TextLimits) (p : ℕ) (bytes : List ℕ) (left_old left_new : Option (List ℕ)) (was is now : FileKind → Option (List ℕ)) (out new : Option (List ℕ)) (info : GridInfo) (b : IsBuilt limits p bytes was is info) (r : Result Ended Stop) → Same is now → IfOk r (EndShown (IsOverIn program) (IsReportOf program iterations mode info out new)) → IfErr r (λ why. IfDamaged why (IsWrongIn info)) → Leaves (ran_as program p iterations mode b.list) is out new r →
+ran_ends : (program : ProgramName) (iterations : ℕ) (mode : Mode) (limits : TextLimits) (p : ℕ) (bytes : List ℕ) (left_old left_new : Option (List ℕ)) (was is now : FileKind → Option (List ℕ)) (out new : Option (List ℕ)) (info : GridInfo) (b : IsBuilt limits p bytes was is info) (r : Result Ended Stop) → Same is now → IfOk r (EndShown (IsOverAt iterations info (IsOverIn program)) (IsReportOf program iterations mode info out new)) → IfErr r (λ why. IfDamaged why (IsWrongIn iterations mode info)) → Leaves (ran_as program p iterations mode b.list) is out new r →
     Ends (done_with (did_run program iterations mode p) (reading limits bytes)) (sides_of left_old left_new was now out new) (completed_run r)
 ran_ends program iterations mode limits p bytes left_old left_new was is now out new info b (Ok end) same shown wrong h = record {
   did = did_run program iterations mode p b.list;
   gives = ap (done_with (did_run program iterations mode p)) b.is;
   kind = refl;
-  shown = subst (λ i. EndShown (IsOverIn program) (IsReportOf program iterations mode i out new) end) b.head shown;
+  shown = subst (λ i. EndShown (IsOverAt iterations i (IsOverIn program)) (IsReportOf program iterations mode i out new) end) b.head shown;
   exact = λ told.
       let k = h (told_before (was Meta) (is Meta) _ b.files.meta_file told) in
       record { status = ap ending_status k.0; line = ap ending_line k.0; written = k.1 };
@@ -341,7 +342,7 @@ ran_ends program iterations mode limits p bytes left_old left_new was is now out
   files = still_files _ was is now same b.files;
   run = record { program = program; iterations = iterations; mode = mode; own = record { list = b.list; parts = p } };
   is_run = refl;
-  wrong = subst (λ i. IsWrongIn i kind place found) b.head wrong;
+  wrong = subst (λ i. IsWrongIn iterations mode i kind place found) b.head wrong;
 }
 ran_ends program iterations mode limits p bytes left_old left_new was is now out new info b (Err stop.Memory) same shown wrong h = h
 ran_ends program iterations mode limits p bytes left_old left_new was is now out new info b (Err stop.Read) same shown wrong h = absurd h
@@ -354,7 +355,7 @@ ran_ends program iterations mode limits p bytes left_old left_new was is now out
 ran_ends program iterations mode limits p bytes left_old left_new was is now out new info b (Err (stop.Illegal event why)) same shown wrong h = absurd h
 
 pub ran_done : (program : ProgramName) (iterations : ℕ) (mode : Mode) (limits : TextLimits) (p : ℕ) (left_old left_new : Option (List ℕ)) (was is now : FileKind → Option (List ℕ)) (out new : Option (List ℕ)) (info : GridInfo) (r : Result Ended Stop) →
-    (h : HasGridBuilt limits p (sides_of left_old left_new was is out out) (Ok info)) → Same is now → IfOk r (EndShown (IsOverIn program) (IsReportOf program iterations mode info out new)) → IfErr r (λ why. IfDamaged why (IsWrongIn info)) → Leaves (ran_as program p iterations mode h.builds.0.list) is out new r → HasDone (did_run program iterations mode p) limits (sides_of left_old left_new was now out new) (completed_run r)
+    (h : HasGridBuilt limits p (sides_of left_old left_new was is out out) (Ok info)) → Same is now → IfOk r (EndShown (IsOverAt iterations info (IsOverIn program)) (IsReportOf program iterations mode info out new)) → IfErr r (λ why. IfDamaged why (IsWrongIn iterations mode info)) → Leaves (ran_as program p iterations mode h.builds.0.list) is out new r → HasDone (did_run program iterations mode p) limits (sides_of left_old left_new was now out new) (completed_run r)
 ran_done program iterations mode limits p left_old left_new was is now out new info r h same shown wrong leaves = record {
   bytes = h.bytes;
   told = h.told;
@@ -505,38 +506,52 @@ module _ {D : Type 0} (h : D → FileKind → Option (List ℕ)) (t s : D → Fi
 -- what an engine reported, by what it was opened with
 pub reported_at : {G V S : Type 0} (model : G → Program V S) (name : G → List ℕ) (program : G) (options : RunOptions) (info : GridInfo) (engine : EngineState G V S) (old new : Option (List ℕ)) (end : EndingRecord) →
     engine.program ≡ program → engine.options ≡ options → engine.info ≡ info →
-    IsReport (model engine.program) (name engine.program) engine.options.show engine.options.mode engine.options.iterations engine.info old new end →
-    IsReport (model program) (name program) options.show options.mode options.iterations info old new end
-reported_at model name program options info engine old new end program_is options_is info_is h =
-    subst (λ (pr : _). IsReport (model pr) (name pr) options.show options.mode options.iterations info old new end) program_is
-    (subst (λ (i : GridInfo). IsReport (model engine.program) (name engine.program) options.show options.mode options.iterations i old new end) info_is
-    (subst (λ (o : RunOptions). IsReport (model engine.program) (name engine.program) o.show o.mode o.iterations engine.info old new end) options_is h))
+    IsReport (model engine.program) (name engine.program) engine.options.show engine.options.mode engine.options.iterations engine.info engine.table old new end →
+    (table : BlockCounts) × IsReport (model program) (name program) options.show options.mode options.iterations info table old new end
+reported_at model name program options info engine old new end program_is options_is info_is h = (
+  engine.table,
+  subst (λ (pr : _). IsReport (model pr) (name pr) options.show options.mode options.iterations info engine.table old new end) program_is
+      (subst (λ (i : GridInfo). IsReport (model engine.program) (name engine.program) options.show options.mode options.iterations i engine.table old new end) info_is
+      (subst (λ (o : RunOptions). IsReport (model engine.program) (name engine.program) o.show o.mode o.iterations engine.info engine.table old new end) options_is h)),
+)
+
+-- what its fault shows
+pub shows_at : {G V S : Type 0} (ValueIn : V → Type 0) (SumIn : S → Type 0) (model : G → Program V S) (program : G) (options : RunOptions) (info : GridInfo) (engine : EngineState G V S) (fault : RunFault) →
+    engine.program ≡ program → engine.options ≡ options → engine.info ≡ info →
+    SomeShows ValueIn SumIn (model engine.program) engine.options.mode engine.options.iterations (cut_in engine.info) engine.table fault →
+    SomeShows ValueIn SumIn (model program) options.mode options.iterations (cut_in info) engine.table fault
+shows_at ValueIn SumIn model program options info engine fault program_is options_is info_is h =
+    subst (λ (pr : _). SomeShows ValueIn SumIn (model pr) options.mode options.iterations (cut_in info) engine.table fault) program_is
+    (subst (λ (i : GridInfo). SomeShows ValueIn SumIn (model engine.program) options.mode options.iterations (cut_in i) engine.table fault) info_is
+    (subst (λ (o : RunOptions). SomeShows ValueIn SumIn (model engine.program) o.mode o.iterations (cut_in engine.info) engine.table fault) options_is h))
 
 -- what an end shows
-pub shown_end : (over : ℕ → Type 0) (reported : EndingRecord → Type 0) (end : EndingRecord) → reported end → EndShown over reported (ending_of end)
+pub shown_end : (over : ℕ → ℕ → Type 0) (reported : EndingRecord → Type 0) (end : EndingRecord) → reported end → EndShown over reported (ending_of end)
 shown_end over reported end h = by_why end.why end.iterations h
   where
     by_why : (why : Why) (t : ℕ) → reported (record { iterations = t; why = why }) → EndShown over reported (ended_why why t)
     by_why Still t h = h
     by_why Limit t h = h
 
-pub shown_stop : {V S : Type 0} (ValueIn : V → Type 0) (SumIn : S → Type 0) (p : Program V S) (reported : EndingRecord → Type 0) (fault : RunFault) → RunIsOver ValueIn SumIn p fault → IfOk (run_stop_of fault) (EndShown (IsOver ValueIn SumIn p) reported)
-shown_stop ValueIn SumIn p reported run_fault.Depot h = tt
-shown_stop ValueIn SumIn p reported run_fault.Out h = tt
-shown_stop ValueIn SumIn p reported (run_fault.Range iteration vertex) h = h
-shown_stop ValueIn SumIn p reported (run_fault.Damaged kind place found) h = tt
+module _ {V S : Type 0} (ValueIn : V → Type 0) (SumIn : S → Type 0) (p : Program V S) (mode : Mode) (limit : ℕ) (info : GridInfo) (table : BlockCounts) where
+  pub shown_stop : (reported : EndingRecord → Type 0) (fault : RunFault) → SomeShows ValueIn SumIn p mode limit (cut_in info) table fault → IfOk (run_stop_of fault) (EndShown (IsOverAt limit info (IsOver ValueIn SumIn p)) reported)
+  shown_stop reported run_fault.Depot h = tt
+  shown_stop reported run_fault.Out h = tt
+  shown_stop reported (run_fault.Range iteration vertex) h =
+      (subst (λ (k : ℕ). 1 ≤ k) (sym h.shown.0) h.some, subst (λ (k : ℕ). k ≤ limit) (sym h.shown.0) h.few, h.shown.1, h.shown.2)
+  shown_stop reported (run_fault.Damaged kind place found) h = tt
 
-pub damaged_stop : (info mine : GridInfo) (table : BlockCounts) (fault : RunFault) → mine ≡ info → RunShows (cut_in mine) table fault → IfErr (run_stop_of fault) (λ why. IfDamaged why (IsWrongIn info))
-damaged_stop info mine table run_fault.Depot is h = tt
-damaged_stop info mine table run_fault.Out is h = tt
-damaged_stop info mine table (run_fault.Range iteration vertex) is h = tt
-damaged_stop info mine table (run_fault.Damaged kind place found) is h = inr (table, subst (λ (i : GridInfo). IsStrayWord (cut_in i) table kind place found) is h)
+  pub damaged_stop : (fault : RunFault) → SomeShows ValueIn SumIn p mode limit (cut_in info) table fault → IfErr (run_stop_of fault) (λ why. IfDamaged why (IsWrongIn limit mode info))
+  damaged_stop run_fault.Depot h = tt
+  damaged_stop run_fault.Out h = tt
+  damaged_stop (run_fault.Range iteration vertex) h = tt
+  damaged_stop (run_fault.Damaged kind place found) h = inr (record { iteration = h.iteration; some = h.some; few = h.few; table = table; stray = h.shown })
 
-pub damaged_open : (info : GridInfo) (told : Option (List ℕ)) (fault : OpenFault) (why : Stop) → OpenStops fault why → OpenShows info told fault → IfDamaged why (IsWrongIn info)
-damaged_open info told (open_fault.BudgetTooSmall need given) why is h = absurd h
-damaged_open info told (open_fault.Damaged kind place found) why is h = subst (λ w. IfDamaged w (IsWrongIn info)) (sym is) (inl (h.0, h.1))
-damaged_open info told open_fault.Depot why is h = subst (λ w. IfDamaged w (IsWrongIn info)) (sym is) tt
-damaged_open info told open_fault.NoMemory why is h = subst (λ w. IfDamaged w (IsWrongIn info)) (sym is) tt
+pub damaged_open : (limit : ℕ) (mode : Mode) (info : GridInfo) (told : Option (List ℕ)) (fault : OpenFault) (why : Stop) → OpenStops fault why → OpenShows info told fault → IfDamaged why (IsWrongIn limit mode info)
+damaged_open limit mode info told (open_fault.BudgetTooSmall need given) why is h = absurd h
+damaged_open limit mode info told (open_fault.Damaged kind place found) why is h = subst (λ w. IfDamaged w (IsWrongIn limit mode info)) (sym is) (inl (h.0, h.1))
+damaged_open limit mode info told open_fault.Depot why is h = subst (λ w. IfDamaged w (IsWrongIn limit mode info)) (sym is) tt
+damaged_open limit mode info told open_fault.NoMemory why is h = subst (λ w. IfDamaged w (IsWrongIn limit mode info)) (sym is) tt
 
 pub opens_within : (info : GridInfo) (told : Option (List ℕ)) (fault : OpenFault) (need given : ℕ) → OpenShows info told fault → fault ≡ open_fault.BudgetTooSmall need given → ⊥
 opens_within info told fault need given h is = let k : OpenShows info told (open_fault.BudgetTooSmall need given) = subst (OpenShows info told) is h in k

@@ -16,9 +16,10 @@ use Rattle.grid_format.specs.Checks.{GridFiles, head_of}
 use Rattle.grid_format.specs.Grid.{HasGrid, IsRead, grid, grid_head}
 use Rattle.grid_format.specs.Outside.{Holds}
 use Rattle.lumos_depot.specs.Steps.{Reads, RoseBy}
-use Rattle.partition.specs.Parts.{Cut}
 use Rattle.grid_format.specs.declared.head.GridInfo.{GridInfo}
-use Rattle.grid_build.specs.Built.{HasFiles, IsBuilt}
+use Rattle.grid_build.specs.Built.{HasBuilt, HasFiles, IsBuilt}
+use Rattle.grid_build.specs.declared.options.BuildFault.{BuildFault}
+use Rattle.grid_build.specs.declared.options.BuildFault.TheVariants as build_fault
 use Rattle.grid_build.specs.Outside.{LeavesRuns as BuildLeaves}
 use Rattle.grid_build.proofs.Building.{AreLimits, list_within}
 use Rattle.lumos_depot.proofs.StepLemmas.{rose_then}
@@ -27,12 +28,13 @@ use Rattle.lumos_law.specs.Sync.{ending}
 use Rattle.lumos_report.specs.declared.records.Ending.{Ending as EndingRecord}
 use Rattle.lumos_report.specs.declared.records.Why.{Why}
 use Rattle.lumos_report.specs.declared.records.Why.TheVariants.{Still, Limit}
-use Rattle.early_engine.specs.Engines.{EngineState, IsOpened}
+use Rattle.early_engine.specs.Engines.{EngineState, IsOpened, cut_in}
 use Rattle.lumos_report.specs.declared.records.Kind.{Kind}
 use Rattle.lumos_report.specs.declared.records.Kind.TheVariants.{Full, Fed}
 use Rattle.early_engine.specs.Passes.{file_of, kind_of, primary_taken, secondary_taken}
 use Rattle.early_engine.specs.Opens.{OpenShows}
 use Rattle.early_engine.specs.Report.{finished, report}
+use Rattle.early_engine.specs.Reported.{IsReport}
 use Rattle.early_engine.specs.Runs.{RunComes, Streams}
 use Rattle.early_engine.specs.Making.{IsOver}
 use Rattle.early_engine.specs.Turns.{SomeShows, ending_by_why}
@@ -43,11 +45,11 @@ use Rattle.early_engine.specs.declared.options.OpenFault.TheVariants as open_fau
 use Rattle.early_engine.specs.declared.options.RunFault.{RunFault}
 use Rattle.early_engine.specs.declared.options.RunFault.TheVariants as run_fault
 use Rattle.early_engine.specs.declared.options.RunOptions.{RunOptions}
-use Rattle.lumos_top.specs.Outcome.{Did, Ran, answer, answer_to, did_build, did_replay, did_run, did_within, done_with, done_within, ending_line, ending_status, outcome_of, replay_text, replay_with, stop_line, stop_status}
+use Rattle.lumos_top.specs.Outcome.{Did, Ran, answer, answer_to, did_build, did_replay, did_run, did_within, done_with, done_within, ending_line, ending_status, outcome_of, ran_as, replay_text, replay_with, stop_line, stop_status}
 use Rattle.lumos_top.specs.Replays.{Streamed, streamed}
 use Rattle.lumos_top.specs.Words.{request}
 use Rattle.lumos_top.specs.Report.{grid_line}
-use Rattle.lumos_top.specs.Running.{BuiltAs, Ends, HasDone, HasGridBuilt, IfDamaged, IfOver, IsGridOf, IsOverIn, IsWrongIn, Leaves, LeavesRuns, RoseBoth, RunShown, RunTakes, Shown, Sides, Takes, TakesAs, WhereTold, ended_why, ending_of, ending_told, open_stop_of, run_stop_of}
+use Rattle.lumos_top.specs.Running.{BuiltAs, EndShown, Ends, HasDone, HasGridBuilt, IfDamaged, IsGridOf, IsOverAt, IsOverIn, IsReportOf, IsWrongIn, Leaves, LeavesRuns, RoseBoth, RunTakes, Sides, Takes, TakesAs, WhereTold, ended_why, ending_of, ending_told, OpenStops, run_stop_of}
 use Rattle.lumos_top.specs.declared.status.Completed.{Completed}
 use Rattle.lumos_top.specs.declared.status.Completed.TheVariants.{Run, Build}
 use Rattle.lumos_top.specs.declared.status.Ended.{Ended}
@@ -118,6 +120,8 @@ built_done limits p left_old left_new was is out new info h wrote =
       ends = record {
         did = did_build p b.list;
         gives = ap (done_with (did_build p)) b.is;
+        kind = refl;
+        shown = tt;
         exact = record { status = refl; line = refl; written = wrote ∙ ap (after_told out) (line_is limits p h.bytes was is info b) };
         files = b.files;
       };
@@ -272,11 +276,11 @@ run_took model name program list parts options info was is engine old new end fi
     })
 
 -- an engine that wasn't opened
-pub unopened : (ran : Ran) (info : GridInfo) (files : FileKind → Option (List ℕ)) (out : Option (List ℕ)) (fault : OpenFault) → OpenShows info (files Meta) fault → Leaves ran files out out (Err (open_stop_of fault))
-unopened ran info files out (open_fault.BudgetTooSmall need given) h = refl
-unopened ran info files out (open_fault.Damaged file place found) h = λ told. let e : true ≡ false = sym told ∙ ap is_some h.2 in absurd (cc)
-unopened ran info files out open_fault.Depot h = λ told. front_none out out ran.text refl
-unopened ran info files out open_fault.NoMemory h = refl
+pub unopened : (ran : Ran) (info : GridInfo) (files : FileKind → Option (List ℕ)) (out : Option (List ℕ)) (fault : OpenFault) (why : Stop) → OpenStops fault why → OpenShows info (files Meta) fault → Leaves ran files out out (Err why)
+unopened ran info files out (open_fault.BudgetTooSmall need given) why is h = absurd h
+unopened ran info files out (open_fault.Damaged file place found) why is h = subst (λ w. Leaves ran files out out (Err w)) (sym is) (λ told. let e : true ≡ false = sym told ∙ ap is_some h.2 in absurd (cc))
+unopened ran info files out open_fault.Depot why is h = subst (λ w. Leaves ran files out out (Err w)) (sym is) (λ told. front_none out out ran.text refl)
+unopened ran info files out open_fault.NoMemory why is h = subst (λ w. Leaves ran files out out (Err w)) (sym is) refl
 
 -- the grid that was built is that of the list
 pub built_grid : (limits : TextLimits) (p : ℕ) (bytes : List ℕ) (was is : FileKind → Option (List ℕ)) (info : GridInfo) → ((j k : FileKind) → is_some (is j) ≡ is_some (is k)) → AreLimits limits → 0 < p → p ≤ 256 → (b : IsBuilt limits p bytes was is info) → IsGridOf b.list p info is
@@ -307,51 +311,55 @@ abbrev pub completed_run : Result Ended Stop → Result Completed Stop
 completed_run (Ok end) = Ok (Run end)
 completed_run (Err why) = Err why
 
-ran_ends : (ran : Listed → Ran) (limits : TextLimits) (p : ℕ) (bytes : List ℕ) (left_old left_new : Option (List ℕ)) (was is now : FileKind → Option (List ℕ)) (out new : Option (List ℕ)) (info : GridInfo) (b : IsBuilt limits p bytes was is info) (r : Result Ended Stop) → Same is now → Leaves (ran b.list) is out new r →
-    Ends (done_with (did_run ran p) (reading limits bytes)) (sides_of left_old left_new was now out new) (completed_run r)
-ran_ends ran limits p bytes left_old left_new was is now out new info b (Ok end) same h = record {
-  did = did_run ran p b.list;
-  gives = ap (done_with (did_run ran p)) b.is;
+ran_ends : (program : ProgramName) (iterations : ℕ) (mode : Mode) (limits : TextLimits) (p : ℕ) (bytes : List ℕ) (left_old left_new : Option (List ℕ)) (was is now : FileKind → Option (List ℕ)) (out new : Option (List ℕ)) (info : GridInfo) (b : IsBuilt limits p bytes was is info) (r : Result Ended Stop) → Same is now → IfOk r (EndShown (IsOverAt iterations info (IsOverIn program)) (IsReportOf program iterations mode info out new)) → IfErr r (λ why. IfDamaged why (IsWrongIn iterations mode info)) → Leaves (ran_as program p iterations mode b.list) is out new r →
+    Ends (done_with (did_run program iterations mode p) (reading limits bytes)) (sides_of left_old left_new was now out new) (completed_run r)
+ran_ends program iterations mode limits p bytes left_old left_new was is now out new info b (Ok end) same shown wrong h = record {
+  did = did_run program iterations mode p b.list;
+  gives = ap (done_with (did_run program iterations mode p)) b.is;
+  kind = refl;
+  shown = subst (λ i. EndShown (IsOverAt iterations i (IsOverIn program)) (IsReportOf program iterations mode i out new) end) b.head shown;
   exact = λ told.
       let k = h (told_before (was Meta) (is Meta) _ b.files.meta_file told) in
       record { status = ap ending_status k.0; line = ap ending_line k.0; written = k.1 };
   files = still_files _ was is now same b.files;
 }
-ran_ends ran limits p bytes left_old left_new was is now out new info b (Err stop.Write) same h = record {
-  did = did_run ran p b.list;
-  gives = ap (done_with (did_run ran p)) b.is;
+ran_ends program iterations mode limits p bytes left_old left_new was is now out new info b (Err stop.Write) same shown wrong h = record {
+  did = did_run program iterations mode p b.list;
+  gives = ap (done_with (did_run program iterations mode p)) b.is;
   front = λ told. h (told_before (was Meta) (is Meta) _ b.files.meta_file told);
   files = still_files _ was is now same b.files;
 }
-ran_ends ran limits p bytes left_old left_new was is now out new info b (Err stop.Depot) same h = inr (record {
-  did = did_run ran p b.list;
-  gives = ap (done_with (did_run ran p)) b.is;
+ran_ends program iterations mode limits p bytes left_old left_new was is now out new info b (Err stop.Depot) same shown wrong h = inr (record {
+  did = did_run program iterations mode p b.list;
+  gives = ap (done_with (did_run program iterations mode p)) b.is;
   front = λ told. h (told_before (was Meta) (is Meta) _ b.files.meta_file told);
   files = still_files _ was is now same b.files;
 })
-ran_ends ran limits p bytes left_old left_new was is now out new info b (Err (stop.Damaged file place found)) same h = record {
-  did = did_run ran p b.list;
-  gives = ap (done_with (did_run ran p)) b.is;
-  streamed = refl;
+ran_ends program iterations mode limits p bytes left_old left_new was is now out new info b (Err (stop.Damaged kind place found)) same shown wrong h = record {
+  did = did_run program iterations mode p b.list;
+  gives = ap (done_with (did_run program iterations mode p)) b.is;
   untold = λ told. h (told_before (was Meta) (is Meta) _ b.files.meta_file told);
   files = still_files _ was is now same b.files;
+  run = record { program = program; iterations = iterations; mode = mode; own = record { list = b.list; parts = p } };
+  is_run = refl;
+  wrong = subst (λ i. IsWrongIn iterations mode i kind place found) b.head wrong;
 }
-ran_ends ran limits p bytes left_old left_new was is now out new info b (Err stop.Memory) same h = h
-ran_ends ran limits p bytes left_old left_new was is now out new info b (Err stop.Read) same h = absurd h
-ran_ends ran limits p bytes left_old left_new was is now out new info b (Err (stop.Usage fault)) same h = absurd h
-ran_ends ran limits p bytes left_old left_new was is now out new info b (Err (stop.TooMany many)) same h = absurd h
-ran_ends ran limits p bytes left_old left_new was is now out new info b (Err (stop.Text fault)) same h = absurd h
-ran_ends ran limits p bytes left_old left_new was is now out new info b (Err (stop.BadSchedule line)) same h = absurd h
-ran_ends ran limits p bytes left_old left_new was is now out new info b (Err (stop.ScheduleEnded line)) same h = absurd h
-ran_ends ran limits p bytes left_old left_new was is now out new info b (Err (stop.TooManyEvents limit)) same h = absurd h
-ran_ends ran limits p bytes left_old left_new was is now out new info b (Err (stop.Illegal event why)) same h = absurd h
+ran_ends program iterations mode limits p bytes left_old left_new was is now out new info b (Err stop.Memory) same shown wrong h = h
+ran_ends program iterations mode limits p bytes left_old left_new was is now out new info b (Err stop.Read) same shown wrong h = absurd h
+ran_ends program iterations mode limits p bytes left_old left_new was is now out new info b (Err (stop.Usage fault)) same shown wrong h = absurd h
+ran_ends program iterations mode limits p bytes left_old left_new was is now out new info b (Err (stop.TooMany many)) same shown wrong h = absurd h
+ran_ends program iterations mode limits p bytes left_old left_new was is now out new info b (Err (stop.Text fault)) same shown wrong h = absurd h
+ran_ends program iterations mode limits p bytes left_old left_new was is now out new info b (Err (stop.BadSchedule line)) same shown wrong h = absurd h
+ran_ends program iterations mode limits p bytes left_old left_new was is now out new info b (Err (stop.ScheduleEnded line)) same shown wrong h = absurd h
+ran_ends program iterations mode limits p bytes left_old left_new was is now out new info b (Err (stop.TooManyEvents limit)) same shown wrong h = absurd h
+ran_ends program iterations mode limits p bytes left_old left_new was is now out new info b (Err (stop.Illegal event why)) same shown wrong h = absurd h
 
-pub ran_done : (ran : Listed → Ran) (limits : TextLimits) (p : ℕ) (left_old left_new : Option (List ℕ)) (was is now : FileKind → Option (List ℕ)) (out new : Option (List ℕ)) (info : GridInfo) (r : Result Ended Stop) →
-    (h : HasGridBuilt limits p (sides_of left_old left_new was is out out) (Ok info)) → Same is now → Leaves (ran h.builds.0.list) is out new r → HasDone (did_run ran p) limits (sides_of left_old left_new was now out new) (completed_run r)
-ran_done ran limits p left_old left_new was is now out new info r h same leaves = record {
+pub ran_done : (program : ProgramName) (iterations : ℕ) (mode : Mode) (limits : TextLimits) (p : ℕ) (left_old left_new : Option (List ℕ)) (was is now : FileKind → Option (List ℕ)) (out new : Option (List ℕ)) (info : GridInfo) (r : Result Ended Stop) →
+    (h : HasGridBuilt limits p (sides_of left_old left_new was is out out) (Ok info)) → Same is now → IfOk r (EndShown (IsOverAt iterations info (IsOverIn program)) (IsReportOf program iterations mode info out new)) → IfErr r (λ why. IfDamaged why (IsWrongIn iterations mode info)) → Leaves (ran_as program p iterations mode h.builds.0.list) is out new r → HasDone (did_run program iterations mode p) limits (sides_of left_old left_new was now out new) (completed_run r)
+ran_done program iterations mode limits p left_old left_new was is now out new info r h same shown wrong leaves = record {
   bytes = h.bytes;
   told = h.told;
-  ends = ran_ends ran limits p h.bytes left_old left_new was is now out new info h.builds.0 r same leaves;
+  ends = ran_ends program iterations mode limits p h.bytes left_old left_new was is now out new info h.builds.0 r same shown wrong leaves;
   ended = λ ok. h.builds.1;
 }
 
@@ -374,26 +382,26 @@ copied_is own was is before after all h copied = λ told.
     subst (λ (o : Option (List ℕ)). IfSome o (λ file. RoseBy before after (length file))) (file_told (was Secondary) (is Secondary) own.secondary h.secondary_file (all Secondary Meta ∙ some)) copied
 
 -- what a build took, and then a run
-both_took : (ran : Listed → Ran) (p : ℕ) (list : Listed) (was is : FileKind → Option (List ℕ)) (first before after : FileKind → ℕ) → (IsSome (was Meta) → IsSome (is Meta)) →
-    WhereTold was (RoseBy (first Primary) (before Primary) (length (grid list.edges list.vertices p).secondary)) → before Secondary ≡ first Secondary → WhereTold is (RoseBoth (ran list).primary (ran list).secondary before after) → Takes (outcome_of (Ok (did_run ran p list))) was first after
-both_took ran p list was is first before after still copied unread takes = record {
-  primary = λ told. rose_then (first Primary) (before Primary) (after Primary) (length (grid list.edges list.vertices p).secondary) (ran list).primary (copied told) (takes (still told)).primary_rose;
-  secondary = λ told. subst (λ (k : ℕ). RoseBy k (after Secondary) (ran list).secondary) unread (takes (still told)).secondary_rose;
+both_took : (program : ProgramName) (iterations : ℕ) (mode : Mode) (p : ℕ) (list : Listed) (was is : FileKind → Option (List ℕ)) (first before after : FileKind → ℕ) → (IsSome (was Meta) → IsSome (is Meta)) →
+    WhereTold was (RoseBy (first Primary) (before Primary) (length (grid list.edges list.vertices p).secondary)) → before Secondary ≡ first Secondary → WhereTold is (RoseBoth (ran_as program p iterations mode list).primary (ran_as program p iterations mode list).secondary before after) → Takes (outcome_of (Ok (did_run program iterations mode p list))) was first after
+both_took program iterations mode p list was is first before after still copied unread takes = record {
+  primary = λ told. rose_then (first Primary) (before Primary) (after Primary) (length (grid list.edges list.vertices p).secondary) (ran_as program p iterations mode list).primary (copied told) (takes (still told)).primary_rose;
+  secondary = λ told. subst (λ (k : ℕ). RoseBy k (after Secondary) (ran_as program p iterations mode list).secondary) unread (takes (still told)).secondary_rose;
 }
 
-ended_takes : (ran : Listed → Ran) (p : ℕ) (list : Listed) (was is : FileKind → Option (List ℕ)) (first before after : FileKind → ℕ) (r : Result Ended Stop) → (IsSome (was Meta) → IsSome (is Meta)) →
-    WhereTold was (RoseBy (first Primary) (before Primary) (length (grid list.edges list.vertices p).secondary)) → before Secondary ≡ first Secondary → RunTakes (ran list) is before after r → TakesAs (Ok (did_run ran p list)) was first after (completed_run r)
-ended_takes ran p list was is first before after (Ok (ended.Over iteration vertex)) still copied unread h = λ done. absurd (cc)
-ended_takes ran p list was is first before after (Ok (ended.Still iteration)) still copied unread h = λ done. both_took ran p list was is first before after still copied unread h
-ended_takes ran p list was is first before after (Ok (ended.Limit iteration)) still copied unread h = λ done. both_took ran p list was is first before after still copied unread h
-ended_takes ran p list was is first before after (Err why) still copied unread h = tt
+ended_takes : (program : ProgramName) (iterations : ℕ) (mode : Mode) (p : ℕ) (list : Listed) (was is : FileKind → Option (List ℕ)) (first before after : FileKind → ℕ) (r : Result Ended Stop) → (IsSome (was Meta) → IsSome (is Meta)) →
+    WhereTold was (RoseBy (first Primary) (before Primary) (length (grid list.edges list.vertices p).secondary)) → before Secondary ≡ first Secondary → RunTakes (ran_as program p iterations mode list) is before after r → TakesAs (Ok (did_run program iterations mode p list)) was first after (completed_run r)
+ended_takes program iterations mode p list was is first before after (Ok (ended.Over iteration vertex)) still copied unread h = λ done. absurd (cc)
+ended_takes program iterations mode p list was is first before after (Ok (ended.Still iteration)) still copied unread h = λ done. both_took program iterations mode p list was is first before after still copied unread h
+ended_takes program iterations mode p list was is first before after (Ok (ended.Limit iteration)) still copied unread h = λ done. both_took program iterations mode p list was is first before after still copied unread h
+ended_takes program iterations mode p list was is first before after (Err why) still copied unread h = tt
 
-pub ran_takes : (ran : Listed → Ran) (limits : TextLimits) (p : ℕ) (left_old left_new : Option (List ℕ)) (was is : FileKind → Option (List ℕ)) (out : Option (List ℕ)) (info : GridInfo) (first before after : FileKind → ℕ) (r : Result Ended Stop) (bytes : List ℕ) → ((j k : FileKind) → is_some (is j) ≡ is_some (is k)) →
-    (h : HasGridBuilt limits p (sides_of left_old left_new was is out out) (Ok info)) → left_old ≡ Some bytes → IfSome (is Secondary) (λ file. RoseBy (first Primary) (before Primary) (length file)) → before Secondary ≡ first Secondary → RunTakes (ran h.builds.0.list) is before after r → TakesAs (done_with (did_run ran p) (reading limits bytes)) was first after (completed_run r)
-ran_takes ran limits p left_old left_new was is out info first before after r bytes all h told copied unread takes =
+pub ran_takes : (program : ProgramName) (iterations : ℕ) (mode : Mode) (limits : TextLimits) (p : ℕ) (left_old left_new : Option (List ℕ)) (was is : FileKind → Option (List ℕ)) (out : Option (List ℕ)) (info : GridInfo) (first before after : FileKind → ℕ) (r : Result Ended Stop) (bytes : List ℕ) → ((j k : FileKind) → is_some (is j) ≡ is_some (is k)) →
+    (h : HasGridBuilt limits p (sides_of left_old left_new was is out out) (Ok info)) → left_old ≡ Some bytes → IfSome (is Secondary) (λ file. RoseBy (first Primary) (before Primary) (length file)) → before Secondary ≡ first Secondary → RunTakes (ran_as program p iterations mode h.builds.0.list) is before after r → TakesAs (done_with (did_run program iterations mode p) (reading limits bytes)) was first after (completed_run r)
+ran_takes program iterations mode limits p left_old left_new was is out info first before after r bytes all h told copied unread takes =
     let b = h.builds.0 in
-    takes_by _ _ was first after (completed_run r) (ap (done_with (did_run ran p)) (read_is limits p (sides_of left_old left_new was is out out) info h bytes told))
-    (ended_takes ran p b.list was is first before after r (told_before (was Meta) (is Meta) _ b.files.meta_file)
+    takes_by _ _ was first after (completed_run r) (ap (done_with (did_run program iterations mode p)) (read_is limits p (sides_of left_old left_new was is out out) info h bytes told))
+    (ended_takes program iterations mode p b.list was is first before after r (told_before (was Meta) (is Meta) _ b.files.meta_file)
     (copied_is (grid b.list.edges b.list.vertices p) was is (first Primary) (before Primary) all b.files copied) unread takes)
 
 none_taken : (before after : ℕ) → after ≡ before → RoseBy before after 0
@@ -415,7 +423,7 @@ pub asked_takes : (words : List (List ℕ)) (r : Result Request UsageFault) (byt
 asked_takes words r bytes files before after result is h = subst (λ q. TakesAs (answer_to q bytes) files before after result) (sym is) h
 
 -- a replay takes nothing
-nothing_taken : (files : FileKind → Option (List ℕ)) (t : FileKind → ℕ) (text err : List ℕ) (s : Status) → Takes (record { status = s; out = text; err = err; built = None; streamed = false; primary = 0; secondary = 0 }) files t t
+nothing_taken : (files : FileKind → Option (List ℕ)) (t : FileKind → ℕ) (text err : List ℕ) (s : Status) → Takes (record { status = s; out = text; err = err; built = None; run = None; primary = 0; secondary = 0 }) files t t
 nothing_taken files t text err s = record { primary = λ told. none_taken (t Primary) (t Primary) refl; secondary = none_taken (t Secondary) (t Secondary) refl }
 
 text_takes : (r : Result (List ℕ) Stop) (files : FileKind → Option (List ℕ)) (t : FileKind → ℕ) → Takes (outcome_of (did_replay r)) files t t
@@ -495,51 +503,59 @@ module _ {D : Type 0} (h : D → FileKind → Option (List ℕ)) (t s : D → Fi
     sums_stored = b.stored Sums;
   }
 
+-- what an engine reported, by what it was opened with
+pub reported_at : {G V S : Type 0} (model : G → Program V S) (name : G → List ℕ) (program : G) (options : RunOptions) (info : GridInfo) (engine : EngineState G V S) (old new : Option (List ℕ)) (end : EndingRecord) →
+    engine.program ≡ program → engine.options ≡ options → engine.info ≡ info →
+    IsReport (model engine.program) (name engine.program) engine.options.show engine.options.mode engine.options.iterations engine.info engine.table old new end →
+    (table : BlockCounts) × IsReport (model program) (name program) options.show options.mode options.iterations info table old new end
+reported_at model name program options info engine old new end program_is options_is info_is h = (
+  engine.table,
+  subst (λ (pr : _). IsReport (model pr) (name pr) options.show options.mode options.iterations info engine.table old new end) program_is
+      (subst (λ (i : GridInfo). IsReport (model engine.program) (name engine.program) options.show options.mode options.iterations i engine.table old new end) info_is
+      (subst (λ (o : RunOptions). IsReport (model engine.program) (name engine.program) o.show o.mode o.iterations engine.info engine.table old new end) options_is h)),
+)
+
+-- what its fault shows
+pub shows_at : {G V S : Type 0} (ValueIn : V → Type 0) (SumIn : S → Type 0) (model : G → Program V S) (program : G) (options : RunOptions) (info : GridInfo) (engine : EngineState G V S) (fault : RunFault) →
+    engine.program ≡ program → engine.options ≡ options → engine.info ≡ info →
+    SomeShows ValueIn SumIn (model engine.program) engine.options.mode engine.options.iterations (cut_in engine.info) engine.table fault →
+    SomeShows ValueIn SumIn (model program) options.mode options.iterations (cut_in info) engine.table fault
+shows_at ValueIn SumIn model program options info engine fault program_is options_is info_is h =
+    subst (λ (pr : _). SomeShows ValueIn SumIn (model pr) options.mode options.iterations (cut_in info) engine.table fault) program_is
+    (subst (λ (i : GridInfo). SomeShows ValueIn SumIn (model engine.program) options.mode options.iterations (cut_in i) engine.table fault) info_is
+    (subst (λ (o : RunOptions). SomeShows ValueIn SumIn (model engine.program) o.mode o.iterations (cut_in engine.info) engine.table fault) options_is h))
+
 -- what an end shows
-pub over_end : {V S : Type 0} (ValueIn : V → Type 0) (SumIn : S → Type 0) (p : Program V S) (end : EndingRecord) → IfOver (ending_of end) (IsOver ValueIn SumIn p)
-over_end ValueIn SumIn p end = by_why end.why end.iterations
+pub shown_end : (over : ℕ → ℕ → Type 0) (reported : EndingRecord → Type 0) (end : EndingRecord) → reported end → EndShown over reported (ending_of end)
+shown_end over reported end h = by_why end.why end.iterations h
   where
-    by_why : (why : Why) (t : ℕ) → IfOver (ended_why why t) (IsOver ValueIn SumIn p)
-    by_why Still t = tt
-    by_why Limit t = tt
+    by_why : (why : Why) (t : ℕ) → reported (record { iterations = t; why = why }) → EndShown over reported (ended_why why t)
+    by_why Still t h = h
+    by_why Limit t h = h
 
-module _ {V S : Type 0} (ValueIn : V → Type 0) (SumIn : S → Type 0) (p : Program V S) (mode : Mode) (limit : ℕ) (cut : Cut) (table : BlockCounts) where
-  pub over_stop : (fault : RunFault) → SomeShows ValueIn SumIn p mode limit cut table fault → IfOk (run_stop_of fault) (λ end. IfOver end (IsOver ValueIn SumIn p))
-  over_stop run_fault.Depot h = tt
-  over_stop run_fault.Out h = tt
-  over_stop (run_fault.Range iteration vertex) h = h.shown.2
-  over_stop (run_fault.Damaged kind place found) h = tt
+module _ {V S : Type 0} (ValueIn : V → Type 0) (SumIn : S → Type 0) (p : Program V S) (mode : Mode) (limit : ℕ) (info : GridInfo) (table : BlockCounts) where
+  pub shown_stop : (reported : EndingRecord → Type 0) (fault : RunFault) → SomeShows ValueIn SumIn p mode limit (cut_in info) table fault → IfOk (run_stop_of fault) (EndShown (IsOverAt limit info (IsOver ValueIn SumIn p)) reported)
+  shown_stop reported run_fault.Depot h = tt
+  shown_stop reported run_fault.Out h = tt
+  shown_stop reported (run_fault.Range iteration vertex) h =
+      (subst (λ (k : ℕ). 1 ≤ k) (sym h.shown.0) h.some, subst (λ (k : ℕ). k ≤ limit) (sym h.shown.0) h.few, h.shown.1, h.shown.2)
+  shown_stop reported (run_fault.Damaged kind place found) h = tt
 
-  pub damaged_stop : (fault : RunFault) → SomeShows ValueIn SumIn p mode limit cut table fault → IfErr (run_stop_of fault) (λ why. IfDamaged why IsWrongIn)
+  pub damaged_stop : (fault : RunFault) → SomeShows ValueIn SumIn p mode limit (cut_in info) table fault → IfErr (run_stop_of fault) (λ why. IfDamaged why (IsWrongIn limit mode info))
   damaged_stop run_fault.Depot h = tt
   damaged_stop run_fault.Out h = tt
   damaged_stop (run_fault.Range iteration vertex) h = tt
-  damaged_stop (run_fault.Damaged kind place found) h = inr (kind_of mode h.iteration, cut, table, h.shown)
+  damaged_stop (run_fault.Damaged kind place found) h = inr (record { iteration = h.iteration; some = h.some; few = h.few; table = table; stray = h.shown })
 
-pub damaged_open : (info : GridInfo) (told : Option (List ℕ)) (fault : OpenFault) → OpenShows info told fault → IfDamaged (open_stop_of fault) IsWrongIn
-damaged_open info told (open_fault.BudgetTooSmall need given) h = tt
-damaged_open info told (open_fault.Damaged kind place found) h = inl (h.0, (info, h.1))
-damaged_open info told open_fault.Depot h = tt
-damaged_open info told open_fault.NoMemory h = tt
+pub damaged_open : (limit : ℕ) (mode : Mode) (info : GridInfo) (told : Option (List ℕ)) (fault : OpenFault) (why : Stop) → OpenStops fault why → OpenShows info told fault → IfDamaged why (IsWrongIn limit mode info)
+damaged_open limit mode info told (open_fault.BudgetTooSmall need given) why is h = absurd h
+damaged_open limit mode info told (open_fault.Damaged kind place found) why is h = subst (λ w. IfDamaged w (IsWrongIn limit mode info)) (sym is) (inl (h.0, h.1))
+damaged_open limit mode info told open_fault.Depot why is h = subst (λ w. IfDamaged w (IsWrongIn limit mode info)) (sym is) tt
+damaged_open limit mode info told open_fault.NoMemory why is h = subst (λ w. IfDamaged w (IsWrongIn limit mode info)) (sym is) tt
 
--- a program by its name
-pub shown_by_name : (name : ProgramName) (r : Result Ended Stop) → IfOk r (λ end. IfOver end (IsOverIn name)) → IfErr r (λ why. IfDamaged why IsWrongIn) → RunShown name r
-shown_by_name name (Ok end) over damaged = over
-shown_by_name name (Err why) over damaged = damaged
+pub opens_within : (info : GridInfo) (told : Option (List ℕ)) (fault : OpenFault) (need given : ℕ) → OpenShows info told fault → fault ≡ open_fault.BudgetTooSmall need given → ⊥
+opens_within info told fault need given h is = let k : OpenShows info told (open_fault.BudgetTooSmall need given) = subst (OpenShows info told) is h in k
 
-pub unbuilt_shown : (limits : TextLimits) (p : ℕ) (sides : Sides) (why : Stop) → HasGridBuilt limits p sides (Err why) → IfDamaged why IsWrongIn
-unbuilt_shown limits p sides (stop.Damaged kind place found) h = absurd h.builds
-unbuilt_shown limits p sides (stop.Text fault) h = tt
-unbuilt_shown limits p sides stop.Read h = tt
-unbuilt_shown limits p sides stop.Memory h = tt
-unbuilt_shown limits p sides stop.Depot h = tt
-unbuilt_shown limits p sides stop.Write h = tt
-unbuilt_shown limits p sides (stop.Usage fault) h = tt
-unbuilt_shown limits p sides (stop.TooMany many) h = tt
-unbuilt_shown limits p sides (stop.BadSchedule line) h = tt
-unbuilt_shown limits p sides (stop.ScheduleEnded line) h = tt
-unbuilt_shown limits p sides (stop.TooManyEvents limit) h = tt
-unbuilt_shown limits p sides (stop.Illegal event why) h = tt
-
-pub asked_shown : (words : List (List ℕ)) (r : Result Request UsageFault) (result : Result Completed Stop) → request words ≡ r → Shown r result → Shown (request words) result
-asked_shown words r result is h = subst (λ q. Shown q result) (sym is) h
+pub builds_within : (limits : TextLimits) (p : ℕ) (left_old left_new : Option (List ℕ)) (was is : FileKind → Option (List ℕ)) (fault : BuildFault) (need given : ℕ) → HasBuilt limits p left_old left_new was is (Err fault) → fault ≡ build_fault.BudgetTooSmall need given → ⊥
+builds_within limits p left_old left_new was is fault need given h same =
+    let k : HasBuilt limits p left_old left_new was is (Err (build_fault.BudgetTooSmall need given)) = subst (λ f. HasBuilt limits p left_old left_new was is (Err f)) same h in k.builds

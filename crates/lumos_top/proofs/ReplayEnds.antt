@@ -1,5 +1,5 @@
 -- How a replay ends over the outside.
-use Rattle.std.proofs.Common.{◌≡◌, ◌<◌, ◌≤◌, ℕ, false, ltb, List, [], ◌++◌, length, Option, None, Result, Ok, Err, refl, ap, subst, ◌∙◌}
+use Rattle.std.proofs.Common.{◌≡◌, ◌<◌, ◌≤◌, ℕ, ltb, List, [], ◌++◌, length, Option, None, Result, Ok, Err, refl, ap, subst, ◌∙◌}
 use Rattle.std.proofs.lemmas.Bool.{cond-false, cond-true, le-ltb, lt-ltb}
 use Rattle.flight_core.specs.Replayed.{Replayed, begun}
 use Rattle.flight_core.specs.declared.event.Event.{Event}
@@ -98,8 +98,10 @@ stream_stopped program parts left_old left_new files out why few h = record {
 done_ends : (program : ProgramName) (parts : ℕ) (bytes : List ℕ) (s : Streamed) (left_old left_new : Option (List ℕ)) (files : FileKind → Option (List ℕ)) (old new : Option (List ℕ)) → parts ≤ 64 → streamed 1099511627776 bytes ≡ Ok s → Shows (replay_text program parts s) old new (Ok tt) →
     Ends (did_within program parts bytes) (sides_with left_old left_new files old new) (Ok Replay)
 done_ends program parts bytes s left_old left_new files old new few is h = record {
-  did = record { text = h.text; status = status.Done; line = []; built = None; streamed = false; primary = 0; secondary = 0 };
+  did = record { text = h.text; status = status.Done; line = []; built = None; run = None; primary = 0; secondary = 0 };
   gives = parts_few program parts bytes few ∙ ap (replay_with program parts) is ∙ ap did_replay h.gives;
+  kind = refl;
+  shown = tt;
   exact = record { status = refl; line = refl; written = h.written };
   files = same_grid files;
 }
@@ -108,7 +110,7 @@ failed_ends : (program : ProgramName) (parts : ℕ) (bytes : List ℕ) (s : Stre
     Ends (did_within program parts bytes) (sides_with left_old left_new files old new) (Err why)
 failed_ends program parts bytes s left_old left_new files old new stop.Memory few is h = h
 failed_ends program parts bytes s left_old left_new files old new stop.Write few is h = record {
-  did = record { text = h.text; status = status.Done; line = []; built = None; streamed = false; primary = 0; secondary = 0 };
+  did = record { text = h.text; status = status.Done; line = []; built = None; run = None; primary = 0; secondary = 0 };
   gives = parts_few program parts bytes few ∙ ap (replay_with program parts) is ∙ ap did_replay h.gives;
   front = h.front;
   files = same_grid files;

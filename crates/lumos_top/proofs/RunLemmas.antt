@@ -1,5 +1,5 @@
 -- What a run comes to.
-use Rattle.std.proofs.Common.{◌≡◌, ◌==◌, ℕ, Bool, true, false, nat_lt, List, [], Option, Some, None, Result, Ok, Err, refl, sym, subst}
+use Rattle.std.proofs.Common.{◌≡◌, ◌==◌, ◌<◌, ℕ, Bool, true, false, nat_lt, List, [], Option, Some, None, Result, Ok, Err, refl, sym, ap, subst, ◌∙◌, arith}
 use Rattle.std.specs.Prelude.{if◌then◌else◌, unwrap_or}
 use Rattle.partition.specs.Parts.{Cut, cut_of}
 use Rattle.partition.specs.declared.records.PartFault.TheVariants.{ZeroParts, TooManyParts, TooManyVertices}
@@ -7,7 +7,8 @@ use Rattle.lumos_depot.specs.declared.depot.FileKind.{FileKind}
 use Rattle.edge_text.specs.Reading.{Listed, reading}
 use Rattle.edge_text.specs.declared.fault.TextFault.{TextFault}
 use Rattle.edge_text.specs.declared.fault.TextLimits.{TextLimits}
-use Rattle.lumos_top.specs.Outcome.{Did, answer, answer_to, done_with, done_within}
+use Rattle.early_engine.specs.declared.options.Mode.{Mode}
+use Rattle.lumos_top.specs.Outcome.{Did, answer, answer_to, done_with, done_within, limits_of, refusal, refusal_of, stopped_by}
 use Rattle.lumos_top.specs.Words.{request}
 use Rattle.grid_format.specs.declared.head.GridInfo.{GridInfo}
 use Rattle.lumos_top.specs.Running.{BuiltAs, Ends, EndsOn, HasDone, HasGridBuilt, SameGrid, Sides, StopsAtWords}
@@ -15,7 +16,11 @@ use Rattle.lumos_top.specs.declared.status.Completed.{Completed}
 use Rattle.lumos_top.specs.declared.status.Stop.{Stop}
 use Rattle.lumos_top.specs.declared.status.Stop.TheVariants as stop
 use Rattle.lumos_top.specs.declared.status.TooMany.{TooMany}
+use Rattle.lumos_top.specs.declared.status.TooMany.TheVariants.{Parts}
+use Rattle.lumos_top.specs.declared.words.ListWords.{ListWords}
+use Rattle.lumos_top.specs.declared.words.ProgramName.{ProgramName}
 use Rattle.lumos_top.specs.declared.words.Request.{Request}
+use Rattle.lumos_top.specs.declared.words.Request.TheVariants as ask
 use Rattle.lumos_top.specs.declared.words.UsageFault.{UsageFault}
 
 cut_by : (a b d : Bool) (n p : ℕ) (cut : Cut) → (if a then Err ZeroParts else (if b then Err (TooManyParts p) else (if d then Err (TooManyVertices n) else Ok (record { vertices = n; parts = p })))) ≡ Ok cut → cut ≡ record { vertices = n; parts = p }
@@ -75,3 +80,31 @@ began command limits sides result fault h is = no_usage_at command (reading limi
 
 pub stops_at : (asked now : Result Request UsageFault) (result : Result Completed Stop) → now ≡ asked → StopsAtWords now result → StopsAtWords asked result
 stops_at asked now result is h = subst (λ r. StopsAtWords r result) is h
+
+-- the words alone refuse, by what they ask for
+refused_with : (words : List (List ℕ)) (r : Result Request UsageFault) (why : Stop) → request words ≡ r → refusal words ≡ Some why → refusal_of r ≡ Some why
+refused_with words r why is h = ap refusal_of (sym is) ∙ h
+
+stopped_with : (F : Stop → Type 0) (r : Result TextLimits TooMany) (why : Stop) → ((many : TooMany) → r ≡ Err many → F (stop.TooMany many)) → stopped_by r ≡ Some why → F why
+stopped_with F (Ok limits) why h is = absurd (cc)
+stopped_with F (Err many) why h is = let same : stop.TooMany many ≡ why = cc in subst F same (h many refl)
+
+pub run_refused : (F : Stop → Type 0) (words : List (List ℕ)) (program : ProgramName) (directory : Option ℕ) (iterations : ℕ) (mode : Mode) (list : ListWords) (why : Stop) →
+    request words ≡ Ok (ask.Run program directory iterations mode list) → ((many : TooMany) → limits_of list ≡ Err many → F (stop.TooMany many)) → refusal words ≡ Some why → F why
+run_refused F words program directory iterations mode list why is h refused = stopped_with F (limits_of list) why h (refused_with words (Ok (ask.Run program directory iterations mode list)) why is refused)
+
+pub build_refused : (F : Stop → Type 0) (words : List (List ℕ)) (directory : Option ℕ) (list : ListWords) (why : Stop) →
+    request words ≡ Ok (ask.Build directory list) → ((many : TooMany) → limits_of list ≡ Err many → F (stop.TooMany many)) → refusal words ≡ Some why → F why
+build_refused F words directory list why is h refused = stopped_with F (limits_of list) why h (refused_with words (Ok (ask.Build directory list)) why is refused)
+
+many_with : (F : Stop → Type 0) (b : Bool) (first why : Stop) → (b ≡ true → F first) → (if b then Some first else None) ≡ Some why → F why
+many_with F true first why h is = let same : first ≡ why = cc in subst F same (h refl)
+many_with F false first why h is = absurd (cc)
+
+pub replay_refused : (F : Stop → Type 0) (words : List (List ℕ)) (program : ProgramName) (parts : ℕ) (why : Stop) →
+    request words ≡ Ok (ask.Replay program parts) → (64 < parts → F (stop.TooMany (Parts parts 64))) → refusal words ≡ Some why → F why
+replay_refused F words program parts why is h refused =
+    many_with F (nat_lt 64 parts) (stop.TooMany (Parts parts 64)) why (λ many. h (grind (arith, many))) (refused_with words (Ok (ask.Replay program parts)) why is refused)
+
+pub words_refused : (F : Stop → Type 0) (words : List (List ℕ)) (fault : UsageFault) (why : Stop) → request words ≡ Err fault → F (stop.Usage fault) → refusal words ≡ Some why → F why
+words_refused F words fault why is h refused = let same : stop.Usage fault ≡ why = let e : Some (stop.Usage fault) ≡ Some why = refused_with words (Err fault) why is refused in cc in subst F same h

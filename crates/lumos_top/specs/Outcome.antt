@@ -1,5 +1,5 @@
 -- What words and input come to: a status, a text, a fault line and the files of a grid.
-use Rattle.std.specs.Prelude.{ℕ, ◌+◌, Bool, true, false, List, [], ◌++◌, length, nat_lt, Option, Some, None, Result, Ok, Err, codes, if◌then◌else◌}
+use Rattle.std.specs.Prelude.{ℕ, ◌+◌, List, [], ◌++◌, length, nat_lt, Option, Some, None, Result, Ok, Err, codes, if◌then◌else◌}
 use Rattle.std.specs.Fmt.{decimal}
 use Rattle.edge_text.specs.Reading.{Listed, reading}
 use Rattle.flight_core.specs.declared.event.Illegal.{Illegal}
@@ -14,7 +14,8 @@ use Rattle.lumos_law.specs.Sync.{Ending, over_in, still_in, limit_at, ending}
 use Rattle.programs.specs.Components.{components_program}
 use Rattle.programs.specs.Tally.{tally_program}
 use Rattle.grid_format.specs.Checks.{GridFiles}
-use Rattle.grid_format.specs.Grid.{grid}
+use Rattle.grid_format.specs.Grid.{grid, grid_head}
+use Rattle.grid_format.specs.declared.head.GridInfo.{GridInfo}
 use Rattle.early_engine.specs.Passes.{primary_taken, secondary_taken}
 use Rattle.early_engine.specs.Report.{finished, report}
 use Rattle.early_engine.specs.declared.options.Mode.{Mode}
@@ -84,28 +85,48 @@ ending_line (over_in t v) = codes "lumos: range: iteration " ++ decimal t ++ cod
 ending_line (still_in t) = []
 ending_line (limit_at t) = []
 
--- what a command comes to that nothing stops: its text, its status and fault line, the grid that it builds, if any,
--- whether its text is made of what the files of the grid give back, and how many bytes it takes of Primary and of Secondary
+-- a grid that is built: that of a list, over so many parts
+pub record Built : Type 0 where
+  pub list : Listed
+  pub parts : ℕ
+
+-- a run over such a grid: its program, the most iterations, and how they go through the grid
+pub record RunOn : Type 0 where
+  pub program : ProgramName
+  pub iterations : ℕ
+  pub mode : Mode
+  pub own : Built
+
+-- its head, and its files
+abbrev pub built_head : Built → GridInfo
+built_head built = grid_head built.list.edges built.list.vertices built.parts
+
+abbrev pub built_files : Built → GridFiles
+built_files built = grid built.list.edges built.list.vertices built.parts
+
+-- what a command comes to that nothing stops: its text, its status and fault line, the grid that it builds, if any, the run
+-- whose text is made of what the files of that grid give back, if it is one, and how many bytes it takes of Primary and of
+-- Secondary
 pub record Did : Type 0 where
   pub text : List ℕ
   pub status : Status
   pub line : List ℕ
-  pub built : Option GridFiles
-  pub streamed : Bool
+  pub built : Option Built
+  pub run : Option RunOn
   pub primary : ℕ
   pub secondary : ℕ
 
 -- a build copies from Primary what the grid's Secondary has, and a run then takes what its iterations read
-abbrev pub did_run : (Listed → Ran) → ℕ → Listed → Did
-did_run ran parts list =
-    let files = grid list.edges list.vertices parts in record {
-      text = (ran list).text;
-      status = ending_status (ran list).ending;
-      line = ending_line (ran list).ending;
-      built = Some files;
-      streamed = true;
-      primary = length files.secondary + (ran list).primary;
-      secondary = (ran list).secondary;
+abbrev pub did_run : ProgramName → ℕ → Mode → ℕ → Listed → Did
+did_run program iterations mode parts list =
+    let ran = ran_as program parts iterations mode list in record {
+      text = ran.text;
+      status = ending_status ran.ending;
+      line = ending_line ran.ending;
+      built = Some (record { list = list; parts = parts });
+      run = Some (record { program = program; iterations = iterations; mode = mode; own = record { list = list; parts = parts } });
+      primary = length (grid list.edges list.vertices parts).secondary + ran.primary;
+      secondary = ran.secondary;
     }
 
 abbrev pub did_build : ℕ → Listed → Did
@@ -114,8 +135,8 @@ did_build parts list =
       text = grid_line list.vertices (length list.edges) parts;
       status = status.Done;
       line = [];
-      built = Some files;
-      streamed = false;
+      built = Some (record { list = list; parts = parts });
+      run = None;
       primary = length files.secondary;
       secondary = 0;
     }
@@ -131,7 +152,7 @@ done_within command (Err many) input = Err (stop.TooMany many)
 
 -- what a replay writes, unless an event is refused
 abbrev pub did_replay : Result (List ℕ) Stop → Result Did Stop
-did_replay (Ok text) = Ok (record { text = text; status = status.Done; line = []; built = None; streamed = false; primary = 0; secondary = 0 })
+did_replay (Ok text) = Ok (record { text = text; status = status.Done; line = []; built = None; run = None; primary = 0; secondary = 0 })
 did_replay (Err why) = Err why
 
 -- what a replay of events over a list writes: the iterations from 0 to 1024 are shown
@@ -148,7 +169,7 @@ abbrev pub did_within : ProgramName → ℕ → List ℕ → Result Did Stop
 did_within program parts input = if nat_lt 64 parts then Err (stop.TooMany (Parts parts 64)) else replay_with program parts (streamed 1099511627776 input)
 
 abbrev pub answer_to : Result Request UsageFault → List ℕ → Result Did Stop
-answer_to (Ok (Run program directory iterations mode words)) input = done_within (did_run (ran_as program words.parts iterations mode) words.parts) (limits_of words) input
+answer_to (Ok (Run program directory iterations mode words)) input = done_within (did_run program iterations mode words.parts) (limits_of words) input
 answer_to (Ok (Build directory words)) input = done_within (did_build words.parts) (limits_of words) input
 answer_to (Ok (Replay program parts)) input = did_within program parts input
 answer_to (Err fault) input = Err (stop.Usage fault)
@@ -156,6 +177,20 @@ answer_to (Err fault) input = Err (stop.Usage fault)
 -- what words and input ask for, or why it isn't done
 abbrev pub answer : List (List ℕ) → List ℕ → Result Did Stop
 answer words input = answer_to (request words) input
+
+-- why the words alone are refused, whatever the input is: they ask for nothing, or state a number that is too great
+abbrev pub stopped_by : Result TextLimits TooMany → Option Stop
+stopped_by (Ok limits) = None
+stopped_by (Err many) = Some (stop.TooMany many)
+
+abbrev pub refusal_of : Result Request UsageFault → Option Stop
+refusal_of (Ok (Run program directory iterations mode words)) = stopped_by (limits_of words)
+refusal_of (Ok (Build directory words)) = stopped_by (limits_of words)
+refusal_of (Ok (Replay program parts)) = if nat_lt 64 parts then Some (stop.TooMany (Parts parts 64)) else None
+refusal_of (Err fault) = Some (stop.Usage fault)
+
+abbrev pub refusal : List (List ℕ) → Option Stop
+refusal words = refusal_of (request words)
 
 -- the directory that words lead to, if they lead to one: that of a run or a build for which no stated number is too great
 abbrev pub place_within : Result TextLimits TooMany → List ℕ → Option (List ℕ)
@@ -258,49 +293,21 @@ stop_line stop.Write = codes "lumos: write fault\n"
 stop_line (stop.Damaged file place found) = codes "lumos: damaged: " ++ file_text file ++ codes " at " ++ decimal place ++ codes " found " ++ decimal found ++ codes "\n"
 
 -- a status, what is written to `out`, a fault line, and the grid that is built, if one is; else the grid's files stay.
--- A text that is streamed is made of what the files of the grid give back. So many bytes are taken of Primary and of
+-- The text of a run is made of what the files of its grid give back. So many bytes are taken of Primary and of
 -- Secondary.
 pub record Outcome : Type 0 where
   pub status : Status
   pub out : List ℕ
   pub err : List ℕ
-  pub built : Option GridFiles
-  pub streamed : Bool
+  pub built : Option Built
+  pub run : Option RunOn
   pub primary : ℕ
   pub secondary : ℕ
 
 abbrev pub outcome_of : Result Did Stop → Outcome
-outcome_of (Ok did) = record { status = did.status; out = did.text; err = did.line; built = did.built; streamed = did.streamed; primary = did.primary; secondary = did.secondary }
-outcome_of (Err why) = record { status = stop_status why; out = []; err = stop_line why; built = None; streamed = false; primary = 0; secondary = 0 }
+outcome_of (Ok did) = record { status = did.status; out = did.text; err = did.line; built = did.built; run = did.run; primary = did.primary; secondary = did.secondary }
+outcome_of (Err why) = record { status = stop_status why; out = []; err = stop_line why; built = None; run = None; primary = 0; secondary = 0 }
 
 -- the outcome of words and input
 abbrev pub outcome : List (List ℕ) → List ℕ → Outcome
 outcome words input = outcome_of (answer words input)
-
--- the fault line of a status that comes from the outside
-abbrev pub outside_line : Status → List ℕ
-outside_line status.Memory = stop_line stop.Memory
-outside_line status.ReadFault = stop_line stop.Read
-outside_line status.DepotFault = stop_line stop.Depot
-outside_line status.WriteFault = stop_line stop.Write
-outside_line status.Done = []
-outside_line status.Usage = []
-outside_line status.Input = []
-outside_line status.Limit = []
-outside_line status.Range = []
-outside_line status.Grid = []
-outside_line status.Schedule = []
-
--- the fault line of a status: four have a line of their own
-abbrev pub line_for : Status → Outcome → List ℕ
-line_for status.Memory o = outside_line status.Memory
-line_for status.ReadFault o = outside_line status.ReadFault
-line_for status.DepotFault o = outside_line status.DepotFault
-line_for status.WriteFault o = outside_line status.WriteFault
-line_for status.Done o = o.err
-line_for status.Usage o = o.err
-line_for status.Input o = o.err
-line_for status.Limit o = o.err
-line_for status.Range o = o.err
-line_for status.Grid o = o.err
-line_for status.Schedule o = o.err

@@ -8,7 +8,7 @@ ghost use Rattle.lumos_top.specs.Outcome.{did_build, done_with};
 ghost use Rattle.lumos_top.specs.Report.{grid_line};
 ghost use Rattle.lumos_depot.specs.Steps.{RoseBy};
 ghost use Rattle.grid_format.specs.Heads.{IsHead};
-ghost use Rattle.lumos_top.specs.Running.{HasDone, HasGridBuilt, IsAttached, LeavesRuns, TakesAs, TextFits, stop_of};
+ghost use Rattle.lumos_top.specs.Running.{BuildStops, HasDone, HasGridBuilt, IsAttached, LeavesRuns, TakesAs, TextFits};
 
 use crate::status::{Completed, Stop};
 use edge_text::{TextFault, TextLimits};
@@ -39,13 +39,14 @@ fn grid_text(info: GridInfo) -> Line
 
 // Why a command stops where its grid isn't built.
 fn build_stop(fault: BuildFault) -> Stop
-    ensures { result ≡ stop_of fault }
+    requires { (need given : ℕ) → fault ≡ BuildFault.BudgetTooSmall need given → ⊥ }
+    ensures { BuildStops fault result }
 {
     match fault {
         BuildFault::Input(faulty) => Stop::Text(TextFault::Input(faulty)),
         BuildFault::TooManyEdges { limit } => Stop::Text(TextFault::TooManyEdges { limit }),
         BuildFault::InputTooLong { limit } => Stop::Text(TextFault::InputTooLong { limit }),
-        BuildFault::BudgetTooSmall { .. } => Stop::Memory,
+        BuildFault::BudgetTooSmall { .. } => unreachable!(),
         BuildFault::Read => Stop::Read,
         BuildFault::Depot => Stop::Depot,
         BuildFault::NoMemory => Stop::Memory,

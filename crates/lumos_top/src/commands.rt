@@ -1,8 +1,8 @@
 // The commands, by their words.
-ghost use Rattle.std.specs.Prelude.{◌≡◌, ◌≤◌, ◌<◌, ℕ, List, Option, IfOk, IfSome, Ok, Err, None, length};
+ghost use Rattle.std.specs.Prelude.{◌≡◌, ◌≤◌, ◌<◌, ℕ, List, Option, IfOk, IfSome, Ok, Err, None, Some, length};
 ghost use Rattle.lumos_depot.specs.Causes.{Rose};
-ghost use Rattle.lumos_top.specs.Outcome.{answer, answer_to, directory, limits_of, place_within};
-ghost use Rattle.lumos_top.specs.Running.{EndShown, EndsOn, IsAttached, LeavesRuns, Shown, StopsAtWords, TakesAs, TextFits, UnlessGrid};
+ghost use Rattle.lumos_top.specs.Outcome.{answer, answer_to, directory, limits_of, place_within, refusal};
+ghost use Rattle.lumos_top.specs.Running.{EndsOn, IsAttached, LeavesRuns, StopsAtWords, TakesAs, TextFits, UnlessGrid};
 ghost use Rattle.lumos_top.specs.Words.{ListFits, RequestFits, name_at, request, texts_of};
 
 use crate::building::build_grid;
@@ -76,6 +76,8 @@ fn run_within<I: Source, D: Depot, O: Sink>(
     requires few { iterations ≤ 1000000 }
     requires fits { ListFits list }
     ensures usage { StopsAtWords (Ok (Request.Run program directory iterations mode list)) result }
+    ensures refused { (many : TooMany) → limits_of list ≡ Err many
+        → (result ≡ Err (Stop.TooMany many)) × (input.new ≡ input.old) × (depot.new ≡ depot.old) × (out.new ≡ out.old) }
     ensures done { EndsOn (answer_to (Ok (Request.Run program directory iterations mode list))) (record {
       left_old = I.left input.old;
       left_new = I.left input.new;
@@ -87,7 +89,6 @@ fn run_within<I: Source, D: Depot, O: Sink>(
     ensures takes { (bytes : List ℕ) → I.left input.old ≡ Some bytes
         → TakesAs (answer_to (Ok (Request.Run program directory iterations mode list)) bytes) (D.holds depot.old) (D.taken depot.old) (D.taken depot.new) result }
     ensures leaves { LeavesRuns D.holds D.taken D.stored depot.old depot.new }
-    ensures shown { EndShown program result }
     ensures attached { IsAttached (place_within (limits_of list) (name_at (texts_of words.now) directory)) (D.attached depot.new) result }
     ensures input_later { I.faults input.old ≤ I.faults input.new }
     ensures depot_later { D.faults depot.old ≤ D.faults depot.new }
@@ -124,6 +125,8 @@ fn build_within<I: Source, D: Depot, O: Sink>(
     requires named { IfSome directory (λ k. k < length words.now) }
     requires fits { ListFits list }
     ensures usage { StopsAtWords (Ok (Request.Build directory list)) result }
+    ensures refused { (many : TooMany) → limits_of list ≡ Err many
+        → (result ≡ Err (Stop.TooMany many)) × (input.new ≡ input.old) × (depot.new ≡ depot.old) × (out.new ≡ out.old) }
     ensures done { EndsOn (answer_to (Ok (Request.Build directory list))) (record {
       left_old = I.left input.old;
       left_new = I.left input.new;
@@ -167,6 +170,8 @@ pub fn perform<I: Source, D: Depot, O: Sink>(
 ) -> Result<Completed, Stop>
     requires free { D.attached depot.old ≡ None }
     ensures usage { StopsAtWords (request (texts_of words.now)) result }
+    ensures refused { (why : Stop) → refusal (texts_of words.now) ≡ Some why
+        → (result ≡ Err why) × (input.new ≡ input.old) × (depot.new ≡ depot.old) × (out.new ≡ out.old) }
     ensures done { EndsOn (answer (texts_of words.now)) (record {
       left_old = I.left input.old;
       left_new = I.left input.new;
@@ -178,9 +183,8 @@ pub fn perform<I: Source, D: Depot, O: Sink>(
     ensures takes { (bytes : List ℕ) → I.left input.old ≡ Some bytes
         → TakesAs (answer (texts_of words.now) bytes) (D.holds depot.old) (D.taken depot.old) (D.taken depot.new) result }
     ensures leaves { LeavesRuns D.holds D.taken D.stored depot.old depot.new }
-    ensures shown { Shown (request (texts_of words.now)) result }
     ensures attached { IsAttached (directory (texts_of words.now)) (D.attached depot.new) result }
-    ensures kept { UnlessGrid (request (texts_of words.now)) (depot.new ≡ depot.old) }
+    ensures kept { UnlessGrid (request (texts_of words.now)) ((depot.new ≡ depot.old) × (result ≡ Err Stop.Depot → ⊥)) }
     ensures input_later { I.faults input.old ≤ I.faults input.new }
     ensures depot_later { D.faults depot.old ≤ D.faults depot.new }
     ensures out_later { O.faults out.old ≤ O.faults out.new }

@@ -1,5 +1,5 @@
 // A replay: events over a list, one by one.
-ghost use Rattle.std.specs.Prelude.{◌≡◌, ◌≤◌, ℕ, List, Option, Err, Ok};
+ghost use Rattle.std.specs.Prelude.{◌≡◌, ◌≤◌, ◌<◌, ℕ, List, Option, Err, Ok};
 ghost use Rattle.lumos_depot.specs.Causes.{Rose};
 ghost use Rattle.lumos_depot.specs.declared.depot.FileKind.{FileKind};
 ghost use Rattle.lumos_top.specs.Graph.{IsGraph};
@@ -131,6 +131,7 @@ pub fn replay<I: Source, O: Sink>(
 ) -> Result<Completed, Stop>
     requires some { 1 ≤ parts }
     ensures usage { StopsAtWords (Ok (Request.Replay program parts)) result }
+    ensures refused { 64 < parts → (result ≡ Err (Stop.TooMany (TooMany.Parts parts 64))) × (input.new ≡ input.old) × (out.new ≡ out.old) }
     ensures done { (files : FileKind → Option (List ℕ))
         → EndsOn (answer_to (Ok (Request.Replay program parts))) (record {
           left_old = I.left input.old;

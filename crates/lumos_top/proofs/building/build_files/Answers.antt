@@ -1,7 +1,7 @@
 use Rattle.std.proofs.Common.{◌∙◌}
 use Rattle.lumos_depot.specs.declared.depot.FileKind.TheVariants.{Primary, Secondary}
 use Rattle.grid_build.proofs.CopyLemmas.{copies_long}
-use Rattle.lumos_top.proofs.GridEnds.{build_leaves, copied_by, leaves_then, same_leaves}
+use Rattle.lumos_top.proofs.GridEnds.{build_leaves, builds_within, copied_by, leaves_then, same_leaves}
 use Rattle.lumos_top.proofs.RunLemmas.{unbuilt}
 use Rattle.lumos_top.proofs.building.build_files.Goals as goal
 
@@ -39,3 +39,6 @@ returns-in-Err-build-clause-leaves g c =
 
 pub returns-in-Err-build-clause-unread : goal.returns-in-Err-build-clause-unread
 returns-in-Err-build-clause-unread g c = c.build.ensures.leaves.taken Secondary (λ e. cc) (λ e. cc) ∙ c.attach.ensures.taken Secondary
+
+pub build_stop-requires : goal.build_stop-requires
+build_stop-requires g c = λ need given is. builds_within c.args.text c.args.parts _ _ _ _ c.in-Err-build.fault need given c.in-Err-build.ensures.grid is

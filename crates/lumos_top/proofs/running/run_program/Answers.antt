@@ -3,15 +3,13 @@ use Rattle.std.proofs.Common.{Ok, Err, sym, subst}
 use Rattle.lumos_depot.specs.declared.depot.FileKind.TheVariants.{Meta, Primary, Secondary}
 use Rattle.lumos_law.specs.Sync.{ending}
 use Rattle.lumos_depot.specs.Steps.{RoseBy}
-use Rattle.early_engine.specs.Engines.{cut_in}
 use Rattle.early_engine.specs.Making.{IsOver}
-use Rattle.early_engine.specs.Turns.{SomeShows}
 use Rattle.early_engine.specs.Passes.{primary_taken, secondary_taken}
 use Rattle.early_engine.specs.Report.{report}
 use Rattle.early_engine.specs.Runs.{RunComes}
 use Rattle.lumos_top.specs.Outcome.{ran_by}
-use Rattle.lumos_top.specs.Running.{IfDamaged, IfOver, IsWrongIn, Leaves, RunTakes}
-use Rattle.lumos_top.proofs.GridEnds.{damaged_open, damaged_stop, leaves_then, open_leaves, run_leaves_files, over_end, over_stop, run_told, run_took, takes_stop}
+use Rattle.lumos_top.specs.Running.{EndShown, HasReport, IfDamaged, IsOverAt, IsWrongIn, Leaves, RunTakes}
+use Rattle.lumos_top.proofs.GridEnds.{damaged_open, damaged_stop, leaves_then, open_leaves, run_leaves_files, opens_within, reported_at, run_told, run_took, shown_end, shown_stop, shows_at, takes_stop, unopened}
 use Rattle.lumos_top.proofs.running.run_program.Goals as goal
 
 pub returns-in-Ok-run-clause-leaves : goal.returns-in-Ok-run-clause-leaves
@@ -76,19 +74,44 @@ returns-in-Err-run-clause-runs g c =
     leaves_then h t s _ _ _ (open_leaves h t s g.D.Depot.faults g.D.Depot.attached _ _ c.open.ensures.reads) (run_leaves_files h t s g.D.Depot.faults g.D.Depot.attached _ _ _ _ c.run.ensures.streams)
 
 pub returns-in-Err-clause-damaged : goal.returns-in-Err-clause-damaged
-returns-in-Err-clause-damaged g c = subst (λ why. IfDamaged why IsWrongIn) (sym c.open_stop.ensures) (damaged_open c.args.info (g.D.Depot.holds c.args.depot.now Meta) c.in-Err.fault c.in-Err.ensures.damaged)
+returns-in-Err-clause-damaged g c = damaged_open c.args.iterations c.args.mode c.args.info (g.D.Depot.holds c.args.depot.now Meta) c.in-Err.fault _ c.open_stop.ensures c.in-Err.ensures.damaged
 
-pub returns-in-Ok-run-clause-over : goal.returns-in-Ok-run-clause-over
-returns-in-Ok-run-clause-over g c =
-    subst (λ end. IfOver end (IsOver g.G.Value.Fixed.is_in_range g.G.Sum.Fixed.is_in_range (g.G.VertexProgram.model c.args.program))) (sym c.ended_by.ensures) (over_end g.G.Value.Fixed.is_in_range g.G.Sum.Fixed.is_in_range (g.G.VertexProgram.model c.args.program) c.in-Ok-run.ending)
+pub returns-in-Err-clause-leaves : goal.returns-in-Err-clause-leaves
+returns-in-Err-clause-leaves g c = λ list parts of.
+    let ran = ran_by (g.G.VertexProgram.model c.args.program) (g.G.VertexProgram.name_text c.args.program) parts c.args.iterations c.args.mode list in
+    unopened ran c.args.info (g.D.Depot.holds c.args.depot.now) (g.O.Sink.written c.args.out.now) c.in-Err.fault c.open_stop.result c.open_stop.ensures c.in-Err.ensures.damaged
 
-pub returns-in-Err-run-clause-over : goal.returns-in-Err-run-clause-over
-returns-in-Err-run-clause-over g c =
+pub open_stop-requires : goal.open_stop-requires
+open_stop-requires g c = λ need given is. opens_within c.args.info (g.D.Depot.holds c.args.depot.now Meta) c.in-Err.fault need given c.in-Err.ensures.damaged is
+
+pub returns-in-Ok-run-clause-shown : goal.returns-in-Ok-run-clause-shown
+returns-in-Ok-run-clause-shown g c =
+    let model = g.G.VertexProgram.model in
+    let name = g.G.VertexProgram.name_text in
+    let old = g.O.Sink.written c.args.out.now in
+    let new = g.O.Sink.written c.run.new.out in
+    let over = IsOverAt c.args.iterations c.args.info (IsOver g.G.Value.Fixed.is_in_range g.G.Sum.Fixed.is_in_range (model c.args.program)) in
+    let told = HasReport (model c.args.program) (name c.args.program) c.args.iterations c.args.mode c.args.info old new in
+    let reported = reported_at model name c.args.program _ c.args.info c.in-Ok.engine old new c.in-Ok-run.ending c.in-Ok.ensures.program c.in-Ok.ensures.options c.in-Ok.ensures.info c.in-Ok-run.ensures.reported in
+    subst (EndShown over told) (sym c.ended_by.ensures) (shown_end over told c.in-Ok-run.ending reported)
+
+pub returns-in-Err-run-clause-shown : goal.returns-in-Err-run-clause-shown
+returns-in-Err-run-clause-shown g c =
+    let model = g.G.VertexProgram.model in
     let e = c.in-Ok.engine in
-    let shows = subst (λ pr. SomeShows g.G.Value.Fixed.is_in_range g.G.Sum.Fixed.is_in_range (g.G.VertexProgram.model pr) e.options.mode e.options.iterations (cut_in e.info) e.table c.in-Err-run.fault) c.in-Ok.ensures.program c.in-Err-run.ensures.shows in
-    subst (λ r. IfOk r (λ end. IfOver end (IsOver g.G.Value.Fixed.is_in_range g.G.Sum.Fixed.is_in_range (g.G.VertexProgram.model c.args.program)))) (sym c.run_stop.ensures)
-    (over_stop g.G.Value.Fixed.is_in_range g.G.Sum.Fixed.is_in_range (g.G.VertexProgram.model c.args.program) e.options.mode e.options.iterations (cut_in e.info) e.table c.in-Err-run.fault shows)
+    let values = g.G.Value.Fixed.is_in_range in
+    let sums = g.G.Sum.Fixed.is_in_range in
+    let over = IsOverAt c.args.iterations c.args.info (IsOver values sums (model c.args.program)) in
+    let told = HasReport (model c.args.program) (g.G.VertexProgram.name_text c.args.program) c.args.iterations c.args.mode c.args.info (g.O.Sink.written c.args.out.now) (g.O.Sink.written c.run.new.out) in
+    let shows = shows_at values sums model c.args.program _ c.args.info e c.in-Err-run.fault c.in-Ok.ensures.program c.in-Ok.ensures.options c.in-Ok.ensures.info c.in-Err-run.ensures.shows in
+    subst (λ r. IfOk r (EndShown over told)) (sym c.run_stop.ensures) (shown_stop values sums (model c.args.program) c.args.mode c.args.iterations c.args.info e.table told c.in-Err-run.fault shows)
 
 pub returns-in-Err-run-clause-damaged : goal.returns-in-Err-run-clause-damaged
 returns-in-Err-run-clause-damaged g c =
-    subst (λ r. IfErr r (λ why. IfDamaged why IsWrongIn)) (sym c.run_stop.ensures) (damaged_stop g.G.Value.Fixed.is_in_range g.G.Sum.Fixed.is_in_range _ _ _ _ _ c.in-Err-run.fault c.in-Err-run.ensures.shows)
+    let model = g.G.VertexProgram.model in
+    let e = c.in-Ok.engine in
+    let values = g.G.Value.Fixed.is_in_range in
+    let sums = g.G.Sum.Fixed.is_in_range in
+    let shows = shows_at values sums model c.args.program _ c.args.info e c.in-Err-run.fault c.in-Ok.ensures.program c.in-Ok.ensures.options c.in-Ok.ensures.info c.in-Err-run.ensures.shows in
+    subst (λ r. IfErr r (λ why. IfDamaged why (IsWrongIn c.args.iterations c.args.mode c.args.info))) (sym c.run_stop.ensures)
+    (damaged_stop values sums (model c.args.program) c.args.mode c.args.iterations c.args.info e.table c.in-Err-run.fault shows)

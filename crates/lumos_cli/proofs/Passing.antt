@@ -1,11 +1,12 @@
 -- What a buffer's range becomes, and that bytes pass through it in their order.
-use Rattle.std.proofs.Common.{◌≡◌, ℕ, ◌+◌, ◌-◌, ◌≤◌, ◌<◌, List, [], ◌++◌, length, take, drop, min, Option, Some, None, Ok, sym, ◌∙◌, ap, arith}
+use Rattle.std.proofs.Common.{◌≡◌, ℕ, ◌+◌, ◌-◌, ◌≤◌, ◌<◌, List, [], ◌++◌, length, take, drop, min, Option, Some, None, Result, Ok, Err, OnOk, sym, ◌∙◌, ap, arith}
 use Rattle.std.proofs.lemmas.List.{append-nil, drop-append-le, drop-drop, drop-take, length-drop, length-take, length-take-le, take-append-drop, take_all}
 use lib.Seq.{drop-nil}
-use Rattle.std.proofs.KnownBytes.{prepend_known-read}
+use Rattle.std.proofs.KnownBytes.{Appends-kept, prepend_known-read}
 use Rattle.std.specs.Prelude.{slice_range}
 use Rattle.std.specs.Io.KnownBytes.{Appends, Consumes, IsAtEnd, Keeps, append_known, prepend_known}
-use Rattle.lumos_cli.specs.Buffered.{AppendsSome}
+use Rattle.lumos_depot.specs.Causes.{HasCause, Rose}
+use Rattle.lumos_cli.specs.Buffered.{AppendsSome, EndsWith, SinkView, all_given}
 
 range_is : (xs : List ℕ) (a b : ℕ) → a ≤ b → slice_range xs a b ≡ drop a (take b xs)
 range_is xs a b h = sym (drop-take a (b - a) xs) ∙ ap (λ k. drop a (take k xs)) {y = b} (omega arith)
@@ -43,4 +44,21 @@ none_waited (Some x) None waiting bytes none h = absurd h
 none_waited (Some x) (Some y) waiting bytes none h = rw (none, append-nil x, append-nil y) h
 
 pub all_came : {E : Type 0} (old new : Option (List ℕ)) (bytes : List ℕ) → Appends old new bytes → AppendsSome {E = E} old new (Ok tt) bytes
-all_came old new bytes h = record { count = length bytes; front = rw (take_all (length bytes) bytes (omega arith)) h; whole = h }
+all_came old new bytes h = record { front = record { count = length bytes; front = rw (take_all (length bytes) bytes (omega arith)) h }; whole = h }
+
+end_whole : {E F : Type 0} (old mid new : SinkView) (line : List ℕ) (put : Result (Unit {0}) E) (flushed : Result (Unit {0}) F)
+    → HasCause old.faults mid.faults put → AppendsSome (all_given old) (all_given mid) put line
+    → HasCause mid.faults new.faults flushed → OnOk flushed (new.waiting ≡ []) → Keeps (all_given mid) (all_given new)
+    → (Rose old.faults new.faults → ⊥) → Appends (all_given old) (all_given new) line × (new.waiting ≡ [])
+end_whole old mid new line (Ok u) (Ok v) a came b none kept calm = (Appends-kept _ _ _ _ came.whole kept, none)
+end_whole old mid new line (Ok u) (Err f) a came b none kept calm = absurd (calm (omega (arith, a.later, b.failed)))
+end_whole old mid new line (Err e) flushed a came b none kept calm = absurd (calm (omega (arith, a.failed, b.later)))
+
+-- A line was put, and then all was handed on, whatever the two calls answered.
+pub ended_with : {E F : Type 0} (old mid new : SinkView) (put : Result (Unit {0}) E) (flushed : Result (Unit {0}) F) (line : List ℕ)
+    → HasCause old.faults mid.faults put → AppendsSome (all_given old) (all_given mid) put line
+    → HasCause mid.faults new.faults flushed → OnOk flushed (new.waiting ≡ []) → Keeps (all_given mid) (all_given new) → EndsWith old new line
+ended_with old mid new put flushed line a came b none kept = record {
+  front = record { count = came.front.count; front = Appends-kept _ _ _ _ came.front.front kept };
+  whole = end_whole old mid new line put flushed a came b none kept;
+}

@@ -7,13 +7,13 @@ ghost use Rattle.std.specs.Option.{option_map};
 ghost use Rattle.lumos_depot.specs.Files.{HasCauseOutside};
 ghost use Rattle.lumos_depot.specs.MemoryDepot.{file_number};
 ghost use Rattle.lumos_depot.specs.declared.depot.FileKind.{FileKind};
-ghost use Rattle.lumos_cli.specs.Files.{FilesView, stored_into, taken_from};
+ghost use Rattle.lumos_cli.specs.Files.{FilesView, file_name, stored_into, taken_from};
 
 use crate::streams::count_fault;
 use lumos_depot::{Depot, DepotFault, Failed, FileKind};
 use std::alloc::AllocGlobal;
 use std::fs;
-use std::fs::{File, OpenOptions};
+use std::fs::{File, Files, OpenFile, OpenOptions};
 use std::io::ErrorKind;
 use std::marker::Model;
 use std::os::unix::fs::FileExt;
@@ -21,30 +21,50 @@ use std::os::unix::fs::FileExt;
 // The length of a file's buffer, in bytes.
 const SIZE: usize = 131072;
 
-// The names of the files, in the order of their numbers.
-const NAMES: [&str; 7] = [
-    "lumos.meta",
-    "lumos.primary",
-    "lumos.secondary",
-    "lumos.info",
-    "lumos.values",
-    "lumos.sums",
-    "lumos.spool",
+// The files in the order of their numbers.
+const KINDS: [FileKind; 7] = [
+    FileKind::Meta,
+    FileKind::Primary,
+    FileKind::Secondary,
+    FileKind::Info,
+    FileKind::Values,
+    FileKind::Sums,
+    FileKind::Spool,
 ];
+
+// The name of a file in its directory.
+fn name_of(kind: FileKind) -> &'static str
+    ensures { result.now ≡ file_name kind }
+{
+    match kind {
+        FileKind::Meta => "lumos.meta",
+        FileKind::Primary => "lumos.primary",
+        FileKind::Secondary => "lumos.secondary",
+        FileKind::Info => "lumos.info",
+        FileKind::Values => "lumos.values",
+        FileKind::Sums => "lumos.sums",
+        FileKind::Spool => "lumos.spool",
+    }
+}
 
 // A file that may be absent. The first `held` bytes of its buffer are those that it has from `start` on.
 #[derive(Drop)]
-struct DepotFile {
+struct DepotFile<F> {
     name: String,
-    file: Option<File>,
+    file: Option<F>,
     buffer: Vec<u8>,
     start: u64,
     held: usize,
 }
 
-impl DepotFile {
-    // The file of a name in a directory, as it is there.
-    fn open(rt: &HostRuntime, path: &str, name: &str) -> Result<DepotFile, DepotFault> {
+impl<F: FileExt + OpenFile> DepotFile<F> {
+    // The file of a kind in a directory, as it is there.
+    fn open<R: Files<File = F> + AllocGlobal>(
+        rt: &R,
+        path: &str,
+        kind: FileKind,
+    ) -> Result<DepotFile<F>, DepotFault> {
+        let name = name_of(kind);
         let Ok(name) = format!(in rt.alloc(); "{path}/{name}") else {
             return Err(DepotFault::NoMemory);
         };
@@ -72,7 +92,7 @@ impl DepotFile {
     }
 
     // Makes the file where it is absent.
-    fn make(&mut self, rt: &HostRuntime) -> Result<&File, Failed> {
+    fn make<R: Files<File = F>>(&mut self, rt: &R) -> Result<&F, Failed> {
         if self.file.is_none() {
             let made = OpenOptions::new()
                 .read(true)
@@ -91,7 +111,7 @@ impl DepotFile {
     }
 
     // Cuts or extends the file. An absent one that is to be empty stays absent.
-    fn resize(&mut self, rt: &HostRuntime, length: u64) -> Result<(), Failed> {
+    fn resize<R: Files<File = F>>(&mut self, rt: &R, length: u64) -> Result<(), Failed> {
         self.held = 0;
         if self.file.is_none() && length == 0 {
             return Ok(());
@@ -104,7 +124,12 @@ impl DepotFile {
     }
 
     // Writes all bytes. The file is made only where there are any.
-    fn write(&mut self, rt: &HostRuntime, place: u64, bytes: &[u8]) -> Result<(), Failed> {
+    fn write<R: Files<File = F>>(
+        &mut self,
+        rt: &R,
+        place: u64,
+        bytes: &[u8],
+    ) -> Result<(), Failed> {
         self.held = 0;
         if bytes.is_empty() {
             return Ok(());
@@ -176,7 +201,7 @@ fn is_for_reading(kind: ErrorKind) -> bool {
 
 // Opens a file where it is present; one that may not be written can still be read. The system's open is made again
 // by `open` itself where it is interrupted.
-fn open_present(rt: &HostRuntime, name: &str) -> Result<Option<File>, Failed> {
+fn open_present<R: Files>(rt: &R, name: &str) -> Result<Option<R::File>, Failed> {
     let opened = match OpenOptions::new().read(true).write(true).open(rt, name) {
         Err(error) if is_for_reading(error.kind()) => File::open(rt, name),
         opened => opened,
@@ -189,7 +214,10 @@ fn open_present(rt: &HostRuntime, name: &str) -> Result<Option<File>, Failed> {
 }
 
 // Opens the seven files of a directory, which must be there.
-fn open_files(rt: &HostRuntime, path: &str) -> Result<Vec<DepotFile>, DepotFault>
+fn open_files<R: Files<File = F> + AllocGlobal, F: FileExt + OpenFile + Drop>(
+    rt: &R,
+    path: &str,
+) -> Result<Vec<DepotFile<F>>, DepotFault>
     ensures { IfOk result (λ files. vec_len files ≡ 7) }
 {
     match fs::metadata(rt, path) {
@@ -198,7 +226,7 @@ fn open_files(rt: &HostRuntime, path: &str) -> Result<Vec<DepotFile>, DepotFault
     }
     let mut files = Vec::new(rt.alloc());
     for i in 0..7usize {
-        let file = DepotFile::open(rt, path, NAMES[i])?;
+        let file = DepotFile::open(rt, path, KINDS[i])?;
         if files.push(file).is_err() {
             return Err(DepotFault::NoMemory);
         }
@@ -207,7 +235,7 @@ fn open_files(rt: &HostRuntime, path: &str) -> Result<Vec<DepotFile>, DepotFault
 }
 
 // The length of an open file.
-fn measure(file: &File) -> Result<u64, Failed> {
+fn measure<F: OpenFile>(file: &F) -> Result<u64, Failed> {
     for _ in 0..u64::MAX {
         match file.metadata() {
             Ok(found) => return Ok(found.len()),
@@ -299,16 +327,16 @@ fn count_failed<T>(answer: Result<T, Failed>, faults: &mut u64) -> Result<T, Dep
 /// The directory must be there when it is attached. A file that is absent has length 0, and is made by the first
 /// write of some bytes, or when it is resized to some length.
 #[derive(Drop)]
-pub struct FileDepot<'a> {
-    rt: &'a HostRuntime,
-    files: Vec<DepotFile>,
+pub struct FileDepot<'a, R, F> {
+    rt: &'a R,
+    files: Vec<DepotFile<F>>,
     taken: [u64; 7],
     stored: [u64; 7],
     faults: u64,
     path: Option<String>,
 }
 
-impl<'a> Model for FileDepot<'a> {
+impl<'a, R, F> Model for FileDepot<'a, R, F> {
     ghost use Rattle.std.specs.Prelude.{◌≡◌, IsSome, vec_len};
     ghost use Rattle.std.specs.String.{string_bytes};
     ghost use Rattle.std.specs.Option.{option_map};
@@ -321,9 +349,9 @@ impl<'a> Model for FileDepot<'a> {
     ghost invariant = { λ d. IsSome d.path → vec_len d.files ≡ 7 };
 }
 
-impl<'a> FileDepot<'a> {
+impl<'a, R: Files<File = F> + AllocGlobal, F: FileExt + OpenFile + Drop> FileDepot<'a, R, F> {
     /// A depot with no directory attached, and all counts at 0. It takes no memory.
-    pub fn new(rt: &'a HostRuntime) -> FileDepot<'a>
+    pub fn new(rt: &'a R) -> FileDepot<'a, R, F>
         ensures { result ≡ record { taken = replicate 7 0; stored = replicate 7 0; faults = 0; path = None } }
     {
         FileDepot {
@@ -337,7 +365,8 @@ impl<'a> FileDepot<'a> {
     }
 }
 
-impl<'a> Depot for FileDepot<'a> {
+impl<'a, R: Files<File = F> + AllocGlobal, F: FileExt + OpenFile + Drop> Depot
+    for FileDepot<'a, R, F> {
     ghost holds = { λ _ _. None };
 
     ghost taken = { taken_from };
@@ -410,8 +439,8 @@ mod tests {
     const FOLDER: &str = "lumos_files_test";
 
     // Writes bytes into a file of their length, reads it, and answers its length.
-    fn pass(depot: &mut FileDepot<'_>, bytes: &[u8], buf: &mut [u8]) -> Result<u64, DepotFault>
-        requires { IsSome depot.old.path }
+    fn pass<D: Depot>(depot: &mut D, bytes: &[u8], buf: &mut [u8]) -> Result<u64, DepotFault>
+        requires { IsSome (D.attached depot.old) }
     {
         depot.resize(FileKind::Spool, bytes.len() as u64)?;
         depot.write_at(FileKind::Spool, 0, bytes)?;
@@ -420,7 +449,7 @@ mod tests {
     }
 
     // The four bytes of a file from a place on.
-    fn four(file: &mut DepotFile, place: u64) -> Result<[u8; 4], Failed> {
+    fn four(file: &mut DepotFile<File>, place: u64) -> Result<[u8; 4], Failed> {
         let mut bytes = [0; 4];
         file.read(place, &mut bytes)?;
         Ok(bytes)
@@ -429,7 +458,7 @@ mod tests {
     // What an absent file gives after it was written whole, was written over, and was cut and extended. `whole` is
     // filled behind the first write.
     fn give(rt: &HostRuntime, text: &[u8], whole: &mut [u8]) -> Result<[[u8; 4]; 5], Failed> {
-        let Ok(mut file) = DepotFile::open(rt, FOLDER, "absent") else {
+        let Ok(mut file) = DepotFile::open(rt, FOLDER, FileKind::Sums) else {
             return Err(Failed);
         };
         file.resize(rt, 0)?;

@@ -79,15 +79,21 @@ fn a_block_is_read_and_its_first_word_outside_is_found(rt: HostRuntime) -> Resul
         let mut out = [edge; 2];
         assert_eq!(rt;
             ask_twice(&mut depot, &mut cursor, &mut out),
-            Some((first, second))
+            Some((first, second)),
+            "byte {place} {fails:?}"
         );
-        assert_eq!(rt; depot.taken_of(FileKind::Primary), taken);
+        assert_eq!(rt;
+            depot.taken_of(FileKind::Primary),
+            taken,
+            "byte {place} {fails:?}"
+        );
         if first == Ok(2) || second == Ok(2) {
             let edges = [(1, 3, 8), (2, 4, 256)];
             for i in 0..2usize {
                 assert_eq!(rt;
                     (out[i].source.0, out[i].target.0, out[i].weight.0),
-                    edges[i]
+                    edges[i],
+                    "byte {place} {fails:?}"
                 );
             }
         }

@@ -99,14 +99,14 @@ fn refuse(
     assert_eq!(rt; depot.put_file(alloc, FileKind::Secondary, b"old"), Ok(()));
     assert_eq!(rt; depot.put_file(alloc, FileKind::Info, b"old"), Ok(()));
     let built = build_in(alloc, &mut input, &mut depot, &OPTIONS);
-    assert_eq!(rt; built, Err(fault));
+    assert_eq!(rt; built, Err(fault), "{fault:?}");
     for kind in [
         FileKind::Meta,
         FileKind::Primary,
         FileKind::Secondary,
         FileKind::Info,
     ] {
-        assert_eq!(rt; depot.file(kind), b"old".as_slice());
+        assert_eq!(rt; depot.file(kind), b"old".as_slice(), "{kind:?} {fault:?}");
     }
     Ok(())
 }

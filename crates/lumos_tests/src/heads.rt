@@ -130,7 +130,7 @@ fn a_head_is_read_and_its_faults_are_found(rt: HostRuntime) -> Result<(), Fail> 
         assert!(rt; depot.put_file(rt.alloc(), FileKind::Info, &[0; 59]).is_ok());
         match read_grid(rt.alloc(), &mut depot) {
             Ok(_) => panic!(rt; "byte {place}"),
-            Err(found) => assert_eq!(rt; found, fault),
+            Err(found) => assert_eq!(rt; found, fault, "byte {place}"),
         }
     }
     Ok(())

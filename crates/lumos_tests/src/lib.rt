@@ -6,6 +6,8 @@ mod blocks;
 #[cfg(test)]
 mod commands;
 #[cfg(test)]
+mod damage;
+#[cfg(test)]
 mod engines;
 #[cfg(test)]
 mod events;
@@ -14,9 +16,14 @@ mod grids;
 #[cfg(test)]
 mod heads;
 #[cfg(test)]
+mod large;
+#[cfg(test)]
 mod lists;
 #[cfg(test)]
 mod objects;
-pub mod reach;
+#[cfg(test)]
+mod refusals;
+#[cfg(test)]
+mod rows;
 #[cfg(test)]
 mod schedules;

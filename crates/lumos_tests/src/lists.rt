@@ -151,9 +151,9 @@ fn texts_read_as_their_format_says_wherever_they_are_cut(rt: HostRuntime) {
         ),
         beyond(b"0 1\n", 3, false, TextFault::InputTooLong { limit: 3 }),
     ];
-    for row in &rows {
+    for (index, row) in rows.iter().enumerate() {
         for cut in 0..=row.text.len() {
-            assert!(rt; agrees(row, cut), "cut at {cut}");
+            assert!(rt; agrees(row, cut), "row {index} cut at {cut}");
         }
     }
 }
@@ -181,4 +181,21 @@ fn pieces_read_as_one_text(rt: HostRuntime) -> Result<(), Fail> {
     assert_eq!(rt; end, Ok(want));
     assert_eq!(rt; places[1], edge(10, 5, 1));
     Ok(())
+}
+
+// The kinds of faults in the order of their numbers.
+#[test]
+fn faults_have_their_numbers(rt: HostRuntime) {
+    let kinds = [
+        NotANumber,
+        MissingTarget,
+        TooManyFields,
+        NumberTooLarge,
+        VertexTooLarge,
+        WeightTooLarge,
+        VertexBeyond,
+    ];
+    for (index, kind) in kinds.into_iter().enumerate() {
+        assert_eq!(rt; kind as usize, index, "{kind:?}");
+    }
 }

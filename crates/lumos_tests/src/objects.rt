@@ -18,8 +18,8 @@ fn streams_go_on_behind_a_fault(rt: HostRuntime) -> Result<(), Fail> {
         (Ok(1), "cb"),
         (Ok(0), "cb"),
     ] {
-        assert_eq!(rt; source.read(&mut buf), given);
-        assert_eq!(rt; &buf[..2], bytes.as_bytes());
+        assert_eq!(rt; source.read(&mut buf), given, "{bytes}");
+        assert_eq!(rt; &buf[..2], bytes.as_bytes(), "{bytes}");
     }
     let mut sink = MemSink::new(rt.alloc(), 5, &[2]).ok().expect(&rt, "memory");
     for (bytes, wrote, held) in [
@@ -27,8 +27,8 @@ fn streams_go_on_behind_a_fault(rt: HostRuntime) -> Result<(), Fail> {
         ("x", Err(Failed), "abc"),
         ("def", Err(Failed), "abcde"),
     ] {
-        assert_eq!(rt; sink.write_all(bytes.as_bytes()), wrote);
-        assert_eq!(rt; sink.bytes(), held.as_bytes());
+        assert_eq!(rt; sink.write_all(bytes.as_bytes()), wrote, "{bytes}");
+        assert_eq!(rt; sink.bytes(), held.as_bytes(), "{bytes}");
     }
     Ok(())
 }
@@ -68,16 +68,16 @@ fn a_failing_call_changes_nothing(rt: HostRuntime) -> Result<(), Fail> {
     for (fails, answer, file, path, taken, stored, calls) in rows {
         let mut depot = MemDepot::new(rt.alloc(), fails).ok().expect(&rt, "memory");
         let mut buf = [0; 2];
-        assert_eq!(rt; go_through(&mut depot, &mut buf), answer);
-        assert_eq!(rt; depot.file(FileKind::Spool), file.as_bytes());
-        assert_eq!(rt; depot.path().unwrap_or(b""), path.as_bytes());
-        assert_eq!(rt; depot.taken_of(FileKind::Spool), taken);
-        assert_eq!(rt; depot.stored_of(FileKind::Spool), stored);
+        assert_eq!(rt; go_through(&mut depot, &mut buf), answer, "{fails:?}");
+        assert_eq!(rt; depot.file(FileKind::Spool), file.as_bytes(), "{fails:?}");
+        assert_eq!(rt; depot.path().unwrap_or(b""), path.as_bytes(), "{fails:?}");
+        assert_eq!(rt; depot.taken_of(FileKind::Spool), taken, "{fails:?}");
+        assert_eq!(rt; depot.stored_of(FileKind::Spool), stored, "{fails:?}");
         depot.detach();
         assert!(rt; depot.path().is_none());
         assert!(rt; depot.put_file(rt.alloc(), FileKind::Info, b"xy").is_ok());
         assert_eq!(rt; depot.file(FileKind::Info), b"xy".as_slice());
-        assert_eq!(rt; depot.calls(), calls);
+        assert_eq!(rt; depot.calls(), calls, "{fails:?}");
     }
     Ok(())
 }

@@ -94,9 +94,9 @@ fn texts_read_as_their_format_says_wherever_they_are_cut(rt: HostRuntime) {
         bad(b"edges\r\r\n", 1),
         bad(b"Edges\n", 1),
     ];
-    for row in &rows {
+    for (index, row) in rows.iter().enumerate() {
         for cut in 0..=row.text.len() {
-            assert!(rt; agrees(rt.alloc(), row, cut), "cut at {cut}");
+            assert!(rt; agrees(rt.alloc(), row, cut), "row {index} cut at {cut}");
         }
     }
 }
@@ -145,19 +145,23 @@ fn events_stand_in_the_order_of_their_lines(rt: HostRuntime) {
             bytes: 198,
             events: 18,
         };
-        assert_eq!(rt; read(&mut reader, first, second), Ok(want));
-        assert_eq!(rt; reader.events(), interleaved().as_slice());
+        assert_eq!(rt; read(&mut reader, first, second), Ok(want), "cut at {cut}");
+        assert_eq!(rt; reader.events(), interleaved().as_slice(), "cut at {cut}");
     }
 }
 
 #[test]
-fn the_event_behind_the_greatest_number_is_too_many(rt: HostRuntime) {
-    let mut reader = ScheduleReader::new(rt.alloc());
-    for _ in 0..100000u32 {
-        assert_eq!(rt; reader.feed(b"final 1 0\n"), Ok(10));
-    }
-    assert_eq!(rt; reader.feed(b"final 1 0"), Ok(9));
+fn the_event_behind_the_greatest_number_is_too_many_at_its_lines_end(rt: HostRuntime) {
     let fault = ScheduleFault::TooManyEvents { limit: 100000 };
-    assert_eq!(rt; reader.finish(), Err(fault));
-    assert_eq!(rt; reader.feed(b"\n"), Err(fault));
+    for ends in [true, false] {
+        let mut reader = ScheduleReader::new(rt.alloc());
+        for _ in 0..100000u32 {
+            assert_eq!(rt; reader.feed(b"final 1 0\n"), Ok(10));
+        }
+        assert_eq!(rt; reader.feed(b"final 1 0"), Ok(9));
+        if ends {
+            assert_eq!(rt; reader.finish(), Err(fault));
+        }
+        assert_eq!(rt; reader.feed(b"\n"), Err(fault), "{ends}");
+    }
 }

@@ -34,12 +34,12 @@ fn read_piece<D: Depot>(
     ensures reads { Reads D.holds D.taken D.stored D.faults D.attached file depot.old depot.new }
     ensures cause { result ≡ Err FileFault.Depot → Rose (D.faults depot.old) (D.faults depot.new) }
 {
-    let Ok(()) = depot.read_at(file, place, bytes) else {
-        return Err(FileFault::Depot);
-    };
-    match get_records(bytes, file, ends, place, out) {
-        Some(fault) => Err(fault),
-        None => Ok(()),
+    match depot.read_at(file, place, bytes) {
+        Ok(()) => match get_records(bytes, file, ends, place, out) {
+            Some(fault) => Err(fault),
+            None => Ok(()),
+        },
+        Err(fault) => Err(FileFault::from(fault)),
     }
 }
 

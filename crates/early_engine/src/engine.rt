@@ -103,9 +103,9 @@ impl<G: VertexProgram> Engine<G> {
     /// the edges of the longest block, and reads the numbers of edges of the blocks from Meta. No file changes, and no other
     /// is read. The iterations lie in 1..=1000000, which are our own bounds. The engine is fresh.
     ///
-    /// `Depot` comes only where the depot's count of faults rose, and `NoMemory` only where memory ran out. `Damaged` never
-    /// comes over a depot that tells its files: it carries a number of Meta with which the blocks' edges don't add up to
-    /// all. `BudgetTooSmall` never comes yet: the budget isn't looked at.
+    /// `Depot` comes only where the depot's count of faults rose, and `NoMemory` is want of memory. `Damaged` never
+    /// comes over a depot that tells its files: it carries a number of Meta with which the blocks' edges don't add up
+    /// to all. `BudgetTooSmall` never comes yet: the budget isn't looked at.
     pub fn open<D: Depot>(
         alloc: Global,
         depot: &mut D,
@@ -170,7 +170,7 @@ impl<G: VertexProgram> Engine<G> {
 
     /// Sets the values at first, by what the file Info says of each vertex, and writes the head of the report and these
     /// values, where they are shown. It needs an engine that is fresh, an attached directory and, where the contents are
-    /// told, an Info with a record for each vertex, of which it takes each once. It takes no memory and changes no file.
+    /// told, an Info with a record for each vertex, of which it takes as many. It takes no memory and changes no file.
     /// A chunk is hot then where some value at first contributes. What is kept is what the event core keeps at its start.
     /// It does the same in both modes.
     ///

@@ -49,7 +49,7 @@ pub enum OpenFault {
     },
     /// The depot failed.
     Depot,
-    /// Memory ran out.
+    /// Want of memory.
     NoMemory,
 }
 

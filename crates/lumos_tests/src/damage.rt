@@ -1,97 +1,9 @@
 // Runs over a depot that tells nothing and damages what it reads.
-ghost use Rattle.std.specs.Prelude.{◌≡◌, ◌≤◌, None};
-ghost use Rattle.lumos_depot.specs.Causes.{Rose};
-ghost use Rattle.lumos_depot.specs.MemoryDepot.{stored_of, taken_of};
-
+use crate::damaging::Damaging;
 use crate::rows::{ROW, Row, check_texts};
-use lumos_depot::{Depot, DepotFault, FileKind, MemDepot};
+use lumos_depot::{FileKind, MemDepot};
 use lumos_top::Status;
 use std::test::Fail;
-
-// A depot round one in memory. In what it reads from one file it gives each byte 5 as 7. A range that isn't inside the file is a
-// fault.
-#[derive(Drop)]
-struct Damaging {
-    inner: MemDepot,
-    file: FileKind,
-    faults: u64,
-}
-
-impl Damaging {
-    // Counts a fault.
-    fn fail(&mut self) -> DepotFault
-        ensures inner { self.new.inner ≡ self.old.inner }
-        ensures cause { (self.old.faults ≤ self.new.faults) × Rose self.old.faults self.new.faults }
-        ensures fault { result ≡ DepotFault.Failed }
-    {
-        self.faults = self.faults.saturating_add(1);
-        DepotFault::Failed
-    }
-
-    // Whether a range lies inside a file.
-    fn has(&self, kind: FileKind, place: u64, count: usize) -> bool {
-        let length = self.inner.file(kind).len() as u64;
-        place <= length && count as u64 <= length - place
-    }
-}
-
-impl Depot for Damaging {
-    ghost holds = { λ _ _. None };
-
-    ghost taken = { λ d kind. taken_of d.inner kind };
-
-    ghost stored = { λ d kind. stored_of d.inner kind };
-
-    ghost faults = { λ d. d.faults };
-
-    ghost attached = { λ d. d.inner.path };
-
-    ghost use Rattle.std.specs.Prelude.{refl};
-
-    ghost tells_all = { λ d j k. refl };
-
-    fn attach(&mut self, path: &str) -> Result<(), DepotFault> {
-        match self.inner.attach(path) {
-            Err(DepotFault::Failed) => Err(self.fail()),
-            answer => answer,
-        }
-    }
-
-    fn len(&mut self, kind: FileKind) -> Result<u64, DepotFault> {
-        match self.inner.len(kind) {
-            Ok(length) => Ok(length),
-            Err(_) => Err(self.fail()),
-        }
-    }
-
-    fn resize(&mut self, kind: FileKind, length: u64) -> Result<(), DepotFault> {
-        match self.inner.resize(kind, length) {
-            Err(DepotFault::Failed) => Err(self.fail()),
-            answer => answer,
-        }
-    }
-
-    fn read_at(&mut self, kind: FileKind, place: u64, buf: &mut [u8]) -> Result<(), DepotFault> {
-        if !self.has(kind, place, buf.len()) || self.inner.read_at(kind, place, buf).is_err() {
-            return Err(self.fail());
-        }
-        if kind == self.file {
-            for byte in buf.iter_mut() {
-                if *byte == 5 {
-                    *byte = 7;
-                }
-            }
-        }
-        Ok(())
-    }
-
-    fn write_at(&mut self, kind: FileKind, place: u64, bytes: &[u8]) -> Result<(), DepotFault> {
-        if !self.has(kind, place, bytes.len()) || self.inner.write_at(kind, place, bytes).is_err() {
-            return Err(self.fail());
-        }
-        Ok(())
-    }
-}
 
 // One edge to the greatest vertex of one part. The words of Primary and Secondary that are read as 7 lie behind that part.
 const TO_FIVE: Row<'static> = Row {
@@ -131,11 +43,7 @@ fn a_damaged_word_ends_the_run(rt: HostRuntime) -> Result<(), Fail> {
     ];
     for (file, row) in rows {
         let inner = MemDepot::new(rt.alloc(), &[]).ok().expect(&rt, "memory");
-        let mut depot = Damaging {
-            inner,
-            file,
-            faults: 0,
-        };
+        let mut depot = Damaging::new(inner, file);
         check_texts(&rt, rt.alloc(), &row, &mut depot)?;
     }
     Ok(())

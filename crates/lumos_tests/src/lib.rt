@@ -7,6 +7,7 @@ mod blocks;
 mod commands;
 #[cfg(test)]
 mod damage;
+pub mod damaging;
 #[cfg(test)]
 mod engines;
 #[cfg(test)]

@@ -196,6 +196,6 @@ fn faults_have_their_numbers(rt: HostRuntime) {
         VertexBeyond,
     ];
     for (index, kind) in kinds.into_iter().enumerate() {
-        assert_eq!(rt; kind as usize, index, "{kind:?}");
+        assert_eq!(rt; kind as usize, index + 1, "{kind:?}");
     }
 }

@@ -23,7 +23,7 @@ module _ {G V S : Type 0} (p : Program V S) where
   abbrev pub done_all : Replayed G V S → List Event → Replayed G V S
   done_all r events = at_state r (after p r.edges r.cut.vertices (chunk_of r.cut) r.state events)
 
--- All events were done, or the first that is refused stopped them, or memory ran out.
+-- All events were done, or the first that is refused stopped them, or it is want of memory.
 abbrev pub EventsEnd : {G V S : Type 0} → Program V S → Replayed G V S → List Event → Replayed G V S → Result (Unit {0}) Stop → Type 0
 EventsEnd p old events new (Ok done) = (refused_in p old events ≡ None) × (new ≡ done_all p old events)
 EventsEnd p old events new (Err (stop.Illegal event why)) = refused_in p old events ≡ Some (record { event = event; why = why })
@@ -51,8 +51,8 @@ pub record IsShort (answer : Result (List ℕ) Stop) (old new : Option (List ℕ
   pub gives : answer ≡ Ok text
   pub front : AppendsFront old new text
 
--- What a replay leaves behind `out`: its text whole, or a front of it, or nothing where an event is refused or memory ran
--- out; nothing else stops it.
+-- What a replay leaves behind `out`: its text whole, or a front of it, or nothing where an event is refused or it is
+-- want of memory; nothing else stops it.
 abbrev pub Shows : Result (List ℕ) Stop → Option (List ℕ) → Option (List ℕ) → Result (Unit {0}) Stop → Type 0
 Shows answer old new (Ok done) = IsShown answer old new
 Shows answer old new (Err stop.Write) = IsShort answer old new

@@ -17,7 +17,7 @@ use Rattle.lumos_top.specs.declared.stream.Part.{Part}
 use Rattle.lumos_top.specs.declared.stream.Part.TheVariants.{Further, Begins}
 use Rattle.lumos_top.specs.declared.stream.Stream.{Stream}
 
--- A text has this fault, unless memory ran out or the source failed.
+-- A text has this fault, unless it is want of memory or a fault of the source.
 abbrev pub StopsBy : {A : Type 0} → Result A Stop → Stop → Type 0
 StopsBy text stop.Memory = Unit {0}
 StopsBy text stop.Read = Unit {0}

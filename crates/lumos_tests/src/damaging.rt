@@ -1,7 +1,7 @@
 // A depot that tells nothing and damages what it reads.
-ghost use Rattle.std.specs.Prelude.{◌≡◌, ◌≤◌, None};
+ghost use Rattle.std.specs.Prelude.{◌≡◌, ◌≤◌, ◌<◌, ◌+◌, ◌^◌, None, length, true};
 ghost use Rattle.lumos_depot.specs.Causes.{Rose};
-ghost use Rattle.lumos_depot.specs.MemoryDepot.{stored_of, taken_of};
+ghost use Rattle.lumos_depot.specs.MemoryDepot.{file_of, stored_of, taken_of};
 
 use lumos_depot::{Depot, DepotFault, FileKind, MemDepot};
 
@@ -36,8 +36,13 @@ impl Damaging {
         DepotFault::Failed
     }
 
-    // Whether a range lies inside a file.
-    fn has(&self, kind: FileKind, place: u64, count: usize) -> bool {
+    // Whether a range lies inside a file, of which the counts fit their type.
+    fn has(&self, kind: FileKind, place: u64, count: usize) -> bool
+        ensures inside { result ≡ true → place + count ≤ length (file_of self.now.inner kind) }
+        ensures taken { taken_of self.now.inner kind < 2 ^ 64 }
+        ensures stored { stored_of self.now.inner kind < 2 ^ 64 }
+    {
+        let _counts = (self.inner.taken_of(kind), self.inner.stored_of(kind));
         let length = self.inner.file(kind).len() as u64;
         place <= length && count as u64 <= length - place
     }
@@ -80,7 +85,10 @@ impl Depot for Damaging {
     }
 
     fn read_at(&mut self, kind: FileKind, place: u64, buf: &mut [u8]) -> Result<(), DepotFault> {
-        if !self.has(kind, place, buf.len()) || self.inner.read_at(kind, place, buf).is_err() {
+        if !self.has(kind, place, buf.len()) {
+            return Err(self.fail());
+        }
+        if self.inner.read_at(kind, place, buf).is_err() {
             return Err(self.fail());
         }
         if kind == self.file {
@@ -94,7 +102,10 @@ impl Depot for Damaging {
     }
 
     fn write_at(&mut self, kind: FileKind, place: u64, bytes: &[u8]) -> Result<(), DepotFault> {
-        if !self.has(kind, place, bytes.len()) || self.inner.write_at(kind, place, bytes).is_err() {
+        if !self.has(kind, place, bytes.len()) {
+            return Err(self.fail());
+        }
+        if self.inner.write_at(kind, place, bytes).is_err() {
             return Err(self.fail());
         }
         Ok(())

@@ -181,9 +181,9 @@ fn a_run_takes_the_list_and_not_the_grid_that_lies_there(rt: HostRuntime) -> Res
     let mut depot = MemDepot::new(rt.alloc(), &[]).ok().expect(&rt, "memory");
     let rows = [(FIVE, FIVE_FILES), (three, THREE_FILES), (FOUR, FOUR_FILES)];
     for (row, files) in &rows {
+        depot.detach();
         check_over(&rt, rt.alloc(), row, &mut depot)?;
         assert!(rt; are_files(&depot, files), "{} {}", row.words, row.input);
-        depot.detach();
     }
     Ok(())
 }

@@ -440,7 +440,8 @@ mod tests {
 
     // Writes bytes into a file of their length, reads it, and answers its length.
     fn pass<D: Depot>(depot: &mut D, bytes: &[u8], buf: &mut [u8]) -> Result<u64, DepotFault>
-        requires { IsSome (D.attached depot.old) }
+        requires attached { IsSome (D.attached depot.old) }
+        requires whole { length buf.old ≡ length bytes.now }
     {
         depot.resize(FileKind::Spool, bytes.len() as u64)?;
         depot.write_at(FileKind::Spool, 0, bytes)?;

@@ -438,10 +438,10 @@ mod tests {
 
     const FOLDER: &str = "lumos_files_test";
 
-    // Writes bytes into a file of their length, reads it, and answers its length.
+    // Writes bytes into a file of their length, reads the first of them, and answers its length.
     fn pass<D: Depot>(depot: &mut D, bytes: &[u8], buf: &mut [u8]) -> Result<u64, DepotFault>
         requires attached { IsSome (D.attached depot.old) }
-        requires whole { length buf.old ≡ length bytes.now }
+        requires within { length buf.old ≤ length bytes.now }
     {
         depot.resize(FileKind::Spool, bytes.len() as u64)?;
         depot.write_at(FileKind::Spool, 0, bytes)?;

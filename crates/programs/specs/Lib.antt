@@ -1,5 +1,9 @@
 pub mod Components
 pub mod ComponentsLaws
+pub mod Flagged
+pub mod FlaggedLaws
+pub mod Paths
+pub mod PathsLaws
 pub mod ShownLaws
 pub mod Tally
 pub mod TallyLaws

@@ -2,7 +2,9 @@
 #![tactic(auto)]
 
 mod components;
+mod paths;
 mod tally;
 
 pub use crate::components::{Components, Label};
+pub use crate::paths::{Cost, Paths};
 pub use crate::tally::Tally;

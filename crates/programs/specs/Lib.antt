@@ -2,6 +2,9 @@ pub mod Components
 pub mod ComponentsLaws
 pub mod Flagged
 pub mod FlaggedLaws
+pub mod Numbers
+pub mod PageRank
+pub mod PageRankLaws
 pub mod Paths
 pub mod PathsLaws
 pub mod ShownLaws

@@ -7,6 +7,10 @@ pub mod PageRank
 pub mod PageRankLaws
 pub mod Paths
 pub mod PathsLaws
+pub mod SeedLaws
+pub mod Seeds
 pub mod ShownLaws
+pub mod Spreading
+pub mod SpreadingLaws
 pub mod Tally
 pub mod TallyLaws

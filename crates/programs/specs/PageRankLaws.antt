@@ -2,7 +2,7 @@
 use Rattle.std.proofs.Common.{◌≡◌, ◌==◌, ℕ, ◌/◌, ◌^◌, ◌<◌, Bool, true, false, cond, nat_lt, List, drop, refl, ap, ap₂, arith}
 use Rattle.std.proofs.Math.Nat.{div-le_self}
 use Rattle.std.proofs.lemmas.Bool.Decides.{nat_tests}
-use Rattle.byteorder.specs.Endian.{little_bytes, little_number}
+use Rattle.byteorder.specs.Endian.{little_bytes}
 use Rattle.byteorder.specs.Numbers.{little_number-reads_back}
 use Rattle.lumos_base.specs.ByteLaws.{IsBytes-append, IsBytes-drop, number_bytes, number_in_range, number_reads_back}
 use Rattle.lumos_base.specs.Bytes.{IsBytes}

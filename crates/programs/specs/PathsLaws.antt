@@ -1,34 +1,17 @@
 -- The laws of `Paths`.
-use Rattle.std.proofs.Common.{◌≡◌, ◌≢◌, ◌==◌, ◌↔◌, ℕ, zero, suc, ◌+◌, ◌%◌, ◌^◌, ◌<◌, ◌≤◌, Bool, true, false, not, cond, IsTrue, List, [], ◌∷◌, ◌++◌, length, get_or, codes, decimal, Some, None, refl, sym, subst, ◌∙◌, arith, true≢false}
+use Rattle.std.proofs.Common.{◌≡◌, ◌≢◌, ◌==◌, ◌↔◌, ℕ, ◌^◌, ◌<◌, ◌≤◌, Bool, true, false, not, cond, IsTrue, length, codes, decimal, Some, None, refl, sym, subst, ◌∙◌, arith, true≢false}
 use Rattle.std.proofs.lemmas.Bool.{eqb-true, eq-eqb, ne_eqb}
-use Rattle.std.proofs.lemmas.Fmt.{decimal_by_steps}
 use Rattle.lumos_law.specs.CombineLaws.{least_laws}
 use Rattle.lumos_law.specs.Combines.{least, IsLeast, saturating}
 use Rattle.lumos_law.specs.Program.{Lawful}
 use Rattle.programs.specs.Paths.{cost_with, IsCost, cost_text, paths_program}
-use Rattle.programs.specs.ShownLaws.{shown_apart, shown_short}
+use Rattle.programs.specs.ShownLaws.{IsHigh, shown_apart, shown_high, shown_short}
 
--- a number's text is not `-`, since it ends with a digit
-abbrev NotDash : ℕ → List ℕ → Type 0
-NotDash n text = (i : ℕ) → i < length text → 48 ≤ get_or text i 48
-
-digit_alone : (n : ℕ) → n < 10 → NotDash n ((48 + n) ∷ [])
-digit_alone n h zero below = omega arith
-digit_alone n h (suc i) below = absurd (omega arith)
-
-digit_more : (n : ℕ) (digits : List ℕ) → 10 ≤ n → NotDash 0 digits → NotDash n (digits ++ ((48 + n % 10) ∷ []))
-digit_more n [] h each zero below = omega arith
-digit_more n [] h each (suc i) below = absurd (omega arith)
-digit_more n (d ∷ digits) h each zero below = each zero (omega arith)
-digit_more n (d ∷ digits) h each (suc i) below = digit_more n digits h (λ k low. each (suc k) (omega arith)) i (omega arith)
-
-digits_high : (n : ℕ) → n < 2 ^ 64 → NotDash n (decimal n)
-digits_high = decimal_by_steps NotDash digit_alone (λ n digits h each. digit_more n digits h each)
-
+-- a number's text is not `-`, which comes before the digits
 dash_apart : (n : ℕ) → n < 2 ^ 64 → codes "-" ≡ decimal n → ⊥
 dash_apart n h same =
-    let high : NotDash n (codes "-") = subst (NotDash n) (sym same) (digits_high n h) in
-    omega (arith, high 0 (omega arith))
+    let high : IsHigh (codes "-") = subst IsHigh (sym same) (shown_high n h) in
+    omega (arith, high 0)
 
 -- the number of a known cost isn't that of an unknown one
 unlike : (m n most : ℕ) → (m == most) ≡ true → (n == most) ≡ false → IsTrue (not (m == n)) × IsTrue (not (n == m))

@@ -152,8 +152,12 @@ texts_short x h =
     let c = length-decimal-le 20 x.c (omega arith) (let fits = h.c in omega arith) in
     let d = length-decimal-le 20 x.d (omega arith) (let fits = h.d in omega arith) in
     let last = decimal x.d in
-    omega (arith, length-append (decimal x.a) (codes " " ++ three_texts x), length-append (decimal x.b) (codes " " ++ two_texts x),
-    length-append (decimal x.c) (codes " " ++ last))
+    omega (
+      arith,
+      length-append (decimal x.a) (codes " " ++ three_texts x),
+      length-append (decimal x.b) (codes " " ++ two_texts x),
+      length-append (decimal x.c) (codes " " ++ last),
+    )
 
 pub spreading_lawful : (unit share : ℕ) (seeds : List Seed) → unit < 2 ^ 64 → Lawful IsScores IsTotal4 (spreading_program unit share seeds)
 spreading_lawful unit share seeds fits = record {

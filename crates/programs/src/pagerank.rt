@@ -134,3 +134,77 @@ impl VertexProgram for PageRank {
         line.push_number(value.rank);
     }
 }
+
+#[cfg(test)]
+mod tests {
+    use super::*;
+
+    #[test]
+    fn ranks_are_mixed_in_parts_that_are_rounded_down(rt: HostRuntime) {
+        let vertex = Vertex(7);
+        for (unit, share, given, after, over) in [
+            (1000000000u64, 850u32, 500000000u64, 575000000u64, false),
+            (1, 500, 1, 0, false),
+            (7, 1001, 999, 999, false),
+            (
+                9223372036854775808,
+                850,
+                u64::MAX,
+                17063238268181335243,
+                true,
+            ),
+            (0, 2000, 9223372036854775807, 18446744073709551614, false),
+            (0, 2000, 9223372036854775808, u64::MAX, true),
+        ] {
+            let pagerank = PageRank { unit, share };
+            let info = OutInfo {
+                degree: 3,
+                weight: 9,
+            };
+            let before = pagerank.init(vertex, info);
+            assert_eq!(rt;
+                before,
+                Rank {
+                    rank: unit,
+                    degree: 3
+                }
+            );
+            let sum = Total(given);
+            assert_eq!(rt; pagerank.over(vertex, &before, &sum), over);
+            let next = pagerank.apply(vertex, &before, &sum);
+            assert_eq!(rt;
+                next,
+                Rank {
+                    rank: after,
+                    degree: 3
+                }
+            );
+            assert_eq!(rt; pagerank.moved(&before, &next), unit != after);
+        }
+    }
+
+    #[test]
+    fn a_vertex_hands_on_equal_parts(rt: HostRuntime) {
+        let pagerank = PageRank {
+            unit: 1,
+            share: 850,
+        };
+        for (rank, degree, given) in [(7u64, 2u32, 3u64), (7, 0, 0), (u64::MAX, 1, u64::MAX)] {
+            let value = Rank { rank, degree };
+            assert_eq!(rt; pagerank.contributes(&value), degree > 0);
+            assert_eq!(rt; pagerank.contribution(&value, Weight(9)), Total(given));
+        }
+        let value = Rank {
+            rank: 0x0203,
+            degree: 4,
+        };
+        let mut line = Line::new();
+        pagerank.name(&mut line);
+        pagerank.show(&value, &mut line);
+        assert_eq!(rt; line.bytes(), b"pagerank515".as_slice());
+        let mut bytes = [0u8; 12];
+        value.put(&mut bytes);
+        assert_eq!(rt; bytes, [3, 2, 0, 0, 0, 0, 0, 0, 4, 0, 0, 0]);
+        assert_eq!(rt; Rank::get(&bytes), Some(value));
+    }
+}

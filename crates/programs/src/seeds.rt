@@ -86,3 +86,25 @@ fn class_in(seeds: &[Seed], vertex: u32) -> Option<u8>
     }
     None
 }
+
+#[cfg(test)]
+mod tests {
+    use super::*;
+
+    #[test]
+    fn seeds_are_refused_in_this_order(rt: HostRuntime) {
+        let mut seeds = Seeds::new();
+        for vertex in 0..64u32 {
+            assert_eq!(rt; seeds.push(Seed { vertex, class: 3 }), Ok(()));
+        }
+        for (vertex, class, fault) in [
+            (5u32, 4u8, SeedFault::BadClass),
+            (5, 0, SeedFault::Repeated),
+            (64, 0, SeedFault::Full),
+        ] {
+            assert_eq!(rt; seeds.push(Seed { vertex, class }), Err(fault));
+        }
+        assert_eq!(rt; seeds.class_of(63), Some(3));
+        assert_eq!(rt; seeds.class_of(64), None);
+    }
+}

@@ -191,3 +191,104 @@ impl VertexProgram for Spreading {
         line.push_number(value.d);
     }
 }
+
+#[cfg(test)]
+mod tests {
+    use super::*;
+    use crate::Seed;
+
+    fn scores(a: u64, b: u64, c: u64, d: u64, weight: u64) -> Scores {
+        Scores { a, b, c, d, weight }
+    }
+
+    #[test]
+    fn scores_spread_by_weight(rt: HostRuntime) {
+        let mut seeds = Seeds::new();
+        assert_eq!(rt;
+            seeds.push(Seed {
+                vertex: 0,
+                class: 0
+            }),
+            Ok(())
+        );
+        assert_eq!(rt;
+            seeds.push(Seed {
+                vertex: 1,
+                class: 3
+            }),
+            Ok(())
+        );
+        let spreading = Spreading {
+            unit: 1000,
+            share: 850,
+            seeds,
+        };
+        let info = OutInfo {
+            degree: 2,
+            weight: 4294967296,
+        };
+        let sum = Total4 {
+            a: 999,
+            b: 0,
+            c: 7,
+            d: 1000,
+        };
+        for (vertex, first, next) in [
+            (
+                0u32,
+                scores(1000, 0, 0, 0, 4294967296),
+                scores(999, 0, 5, 850, 4294967296),
+            ),
+            (
+                1,
+                scores(0, 0, 0, 1000, 4294967296),
+                scores(849, 0, 5, 1000, 4294967296),
+            ),
+            (
+                2,
+                scores(0, 0, 0, 0, 4294967296),
+                scores(849, 0, 5, 850, 4294967296),
+            ),
+        ] {
+            let vertex = Vertex(vertex);
+            assert_eq!(rt; spreading.init(vertex, info), first);
+            assert_eq!(rt; spreading.apply(vertex, &first, &sum), next);
+            assert!(rt; !spreading.over(vertex, &first, &sum));
+            assert!(rt; spreading.moved(&first, &next));
+            assert!(rt; spreading.over(vertex, &first, &Total4 { d: u64::MAX, ..sum }));
+        }
+        for (value, weight, given) in [
+            (
+                scores(1000, 3, 0, 0, 4294967296),
+                4294967295,
+                [999, 2, 0, 0],
+            ),
+            (
+                scores(u64::MAX, 0, 0, 0, 3),
+                2,
+                [12297829382473034410, 0, 0, 0],
+            ),
+            (scores(u64::MAX, 0, 0, 1, 1), 2, [u64::MAX, 0, 0, 2]),
+            (scores(5, 5, 5, 5, 0), 2, [0, 0, 0, 0]),
+            (scores(0, 0, 0, 0, 2), 2, [0, 0, 0, 0]),
+        ] {
+            let [a, b, c, d] = given;
+            assert_eq!(rt;
+                spreading.contribution(&value, Weight(weight)),
+                Total4 { a, b, c, d }
+            );
+            assert_eq!(rt; spreading.contributes(&value), a > 0);
+        }
+        let mut line = Line::new();
+        spreading.name(&mut line);
+        spreading.show(&scores(1, 20, 0, 4, 5), &mut line);
+        assert_eq!(rt; line.bytes(), b"spreading1 20 0 4".as_slice());
+        let mut bytes = [0u8; 40];
+        scores(1, 2, 3, 4, 5).put(&mut bytes);
+        assert_eq!(rt;
+            (bytes[0], bytes[8], bytes[16], bytes[24], bytes[32]),
+            (1, 2, 3, 4, 5)
+        );
+        assert_eq!(rt; Scores::get(&bytes), Some(scores(1, 2, 3, 4, 5)));
+    }
+}

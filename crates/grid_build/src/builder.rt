@@ -1,5 +1,5 @@
 // The builder.
-ghost use Rattle.std.specs.Prelude.{◌≡◌, ◌≢◌, ◌≤◌, ◌<◌, ◌*◌, ℕ, List, [], length, sum, IfErr, IfOk, IfSome, IsSome, OnOk, Err, Some};
+ghost use Rattle.std.specs.Prelude.{◌≡◌, ◌≢◌, ◌≤◌, ◌<◌, ◌*◌, ℕ, List, [], length, sum, IfErr, IfOk, IfSome, IsErrOf, IsSome, OnOk, Err, Some};
 ghost use Rattle.lumos_base.specs.declared.records.Edge.{Edge};
 ghost use Rattle.lumos_depot.specs.Causes.{Rose};
 ghost use Rattle.lumos_depot.specs.Files.{HasDepotCause, Same, SameBut};
@@ -109,6 +109,7 @@ fn fill<D: Depot>(
         → AreFilled parts list (D.holds depot.new)) }
     ensures empty { OnOk result (IfSome (D.holds depot.new FileKind.Meta) (λ file. file ≡ [])) }
     ensures spool { D.stored depot.new FileKind.Spool ≡ D.stored depot.old FileKind.Spool }
+    ensures meta { D.stored depot.new FileKind.Meta ≡ D.stored depot.old FileKind.Meta }
     ensures stored { OnOk result (RoseBy (D.stored depot.old FileKind.Primary) (D.stored depot.new FileKind.Primary) (12 * count)) }
     ensures copied { OnOk result (CopiesAll count (D.taken depot.old) (D.taken depot.new) (D.stored depot.old) (D.stored depot.new) (D.holds depot.new FileKind.Secondary)) }
     ensures leaves { LeavesRuns D.holds D.taken D.stored D.faults D.attached depot.old depot.new }
@@ -133,6 +134,7 @@ fn complete<D: Depot>(depot: &mut D, info: GridInfo, counts: &[u64]) -> Result<(
     ensures info { D.holds depot.new FileKind.Info ≡ D.holds depot.old FileKind.Info }
     ensures taken { Same (D.taken depot.old) (D.taken depot.new) }
     ensures stored { SameBut FileKind.Meta (D.stored depot.old) (D.stored depot.new) }
+    ensures memory { IsErrOf result DepotFault.NoMemory → D.stored depot.new FileKind.Meta ≡ D.stored depot.old FileKind.Meta }
     ensures leaves { LeavesRuns D.holds D.taken D.stored D.faults D.attached depot.old depot.new }
     ensures cause { HasDepotCause (D.faults depot.old) (D.faults depot.new) result }
 {
@@ -155,6 +157,7 @@ fn write_grid<D: Depot>(
     ensures files { IfOk result (λ _. (list : List Edge) → IsSpool parts.vertices (D.holds depot.old FileKind.Spool) list → length list ≡ count
         → HasFiles (grid list parts.vertices parts.parts) (D.holds depot.old) (D.holds depot.new)) }
     ensures spool { D.stored depot.new FileKind.Spool ≡ D.stored depot.old FileKind.Spool }
+    ensures memory { IsErrOf result DepotFault.NoMemory → D.stored depot.new FileKind.Meta ≡ D.stored depot.old FileKind.Meta }
     ensures stored { IfOk result (λ _. RoseBy (D.stored depot.old FileKind.Primary) (D.stored depot.new FileKind.Primary) (12 * count)) }
     ensures copied { IfOk result (λ info. CopiesAll info.edges (D.taken depot.old) (D.taken depot.new) (D.stored depot.old) (D.stored depot.new) (D.holds depot.new FileKind.Secondary)) }
     ensures leaves { LeavesRuns D.holds D.taken D.stored D.faults D.attached depot.old depot.new }
@@ -219,7 +222,7 @@ fn depot_fault(fault: DepotFault) -> BuildFault
 /// - `Read`: only where the source's count of faults rose, and where no line that was taken is faulty. The grid that was
 ///   there stays.
 /// - `Depot`: only where the depot's count of faults rose.
-/// - `NoMemory` is want of memory.
+/// - `NoMemory` is want of memory, and comes before anything is stored in Meta.
 /// - `BudgetTooSmall` never comes, since the parts are stated.
 ///
 /// Over a depot that tells nothing the grid is that of the edges that were read back; an end that isn't among the
@@ -240,6 +243,7 @@ pub fn build<I: Source, D: Depot>(
     ensures grid { HasBuilt options.now.limits (parts_of options.now.parts) (I.left input.old) (I.left input.new) (D.holds depot.old) (D.holds depot.new) result }
     ensures version { IfOk result (λ info. info.version ≡ 1) }
     ensures limits { IfOk result IsHead }
+    ensures memory { IsErrOf result BuildFault.NoMemory → D.stored depot.new FileKind.Meta ≡ D.stored depot.old FileKind.Meta }
     ensures spooled { GrowsBy options.now.limits (I.left input.old) (I.left input.new) (D.stored depot.old FileKind.Spool) (D.stored depot.new FileKind.Spool) }
     ensures stops { IfErr result (StopsAt options.now.limits (I.left input.old) (I.left input.new)) }
     ensures stored { IfOk result (λ info. StoresGrid info.edges (D.stored depot.old) (D.stored depot.new)) }

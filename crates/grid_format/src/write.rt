@@ -63,6 +63,7 @@ fn begin_meta<D: Depot>(depot: &mut D, info: GridInfo) -> Result<(), DepotFault>
         ≡ option_map (λ _. unfinished info [] (8 * (info.parts * info.parts))) (D.holds depot.old FileKind.Meta)) }
     ensures refused { OnErr result (Unmarked (D.holds depot.new FileKind.Meta)) }
     ensures memory { IsErrOf result DepotFault.NoMemory → D.holds depot.new FileKind.Meta ≡ D.holds depot.old FileKind.Meta }
+    ensures unwritten { IsErrOf result DepotFault.NoMemory → D.stored depot.new FileKind.Meta ≡ D.stored depot.old FileKind.Meta }
     ensures writes { Stores D.holds D.taken D.stored D.faults D.attached FileKind.Meta depot.old depot.new }
     ensures cause { HasDepotCause (D.faults depot.old) (D.faults depot.new) result }
 {
@@ -120,7 +121,8 @@ fn mark_meta<D: Depot>(depot: &mut D) -> Result<(), DepotFault>
 /// be empty where the depot tells it. The first eight bytes, by which files are known as a grid's, are written last.
 ///
 /// `Failed` comes only where the depot's count of faults rose. Then Meta doesn't begin with those eight bytes, or it is
-/// whole. `NoMemory` is want of memory, and leaves Meta empty. No other file changes. The format is our own.
+/// whole. `NoMemory` is want of memory, and comes before anything is stored: Meta stays empty. No other file changes. The
+/// format is our own.
 pub fn write_meta<D: Depot>(depot: &mut D, info: GridInfo, counts: &[u64]) -> Result<(), DepotFault>
     requires attached { IsSome (D.attached depot.old) }
     requires head { IsHead info }
@@ -131,6 +133,7 @@ pub fn write_meta<D: Depot>(depot: &mut D, info: GridInfo, counts: &[u64]) -> Re
     ensures refused { OnErr result (IfSome (D.holds depot.new FileKind.Meta) (λ meta.
         (starts_with nat_eq meta magic ≡ false) ⊎ (meta ≡ meta_bytes info counts.now))) }
     ensures memory { IsErrOf result DepotFault.NoMemory → D.holds depot.new FileKind.Meta ≡ D.holds depot.old FileKind.Meta }
+    ensures unwritten { IsErrOf result DepotFault.NoMemory → D.stored depot.new FileKind.Meta ≡ D.stored depot.old FileKind.Meta }
     ensures writes { Stores D.holds D.taken D.stored D.faults D.attached FileKind.Meta depot.old depot.new }
     ensures cause { HasDepotCause (D.faults depot.old) (D.faults depot.new) result }
 {

@@ -65,31 +65,31 @@ use Rattle.lumos_top.specs.declared.status.Stop.{Stop}
 use Rattle.lumos_top.specs.declared.status.Stop.TheVariants as stop
 
 -- the outside of a command
-abbrev pub sides_of : Option (List ℕ) → Option (List ℕ) → (FileKind → Option (List ℕ)) → (FileKind → Option (List ℕ)) → Option (List ℕ) → Option (List ℕ) → Sides
-sides_of left_old left_new was is old_out new_out = record { left_old = left_old; left_new = left_new; was = was; is = is; old_out = old_out; new_out = new_out }
+abbrev pub sides_of : Option (List ℕ) → Option (List ℕ) → (FileKind → Option (List ℕ)) → (FileKind → Option (List ℕ)) → (FileKind → ℕ) → (FileKind → ℕ) → Option (List ℕ) → Option (List ℕ) → Sides
+sides_of left_old left_new was is stored_was stored_is old_out new_out = record { left_old = left_old; left_new = left_new; was = was; is = is; stored_was = stored_was; stored_is = stored_is; old_out = old_out; new_out = new_out }
 
 -- a grid that wasn't built, and nothing was written
-unbuilt_ends : (command : Listed → Did) (limits : TextLimits) (p : ℕ) (bytes : List ℕ) (left_old left_new : Option (List ℕ)) (was is : FileKind → Option (List ℕ)) (out : Option (List ℕ)) (why : Stop) →
-    BuiltAs limits p bytes (sides_of left_old left_new was is out out) (Err why) → Ends (done_with command (reading limits bytes)) (sides_of left_old left_new was is out out) (Err why)
-unbuilt_ends command limits p bytes left_old left_new was is out (stop.Text fault) h = record { gives = ap (done_with command) h.0; same = refl; files = h.1 }
-unbuilt_ends command limits p bytes left_old left_new was is out stop.Read h = record { same = refl; files = h }
-unbuilt_ends command limits p bytes left_old left_new was is out stop.Memory h = refl
-unbuilt_ends command limits p bytes left_old left_new was is out stop.Depot h = inl refl
-unbuilt_ends command limits p bytes left_old left_new was is out stop.Write h = absurd h
-unbuilt_ends command limits p bytes left_old left_new was is out (stop.Damaged file place found) h = absurd h
-unbuilt_ends command limits p bytes left_old left_new was is out (stop.Usage fault) h = absurd h
-unbuilt_ends command limits p bytes left_old left_new was is out (stop.TooMany many) h = absurd h
-unbuilt_ends command limits p bytes left_old left_new was is out (stop.BadSchedule line) h = absurd h
-unbuilt_ends command limits p bytes left_old left_new was is out (stop.ScheduleEnded line) h = absurd h
-unbuilt_ends command limits p bytes left_old left_new was is out (stop.TooManyEvents limit) h = absurd h
-unbuilt_ends command limits p bytes left_old left_new was is out (stop.Illegal event why) h = absurd h
+unbuilt_ends : (command : Listed → Did) (limits : TextLimits) (p : ℕ) (bytes : List ℕ) (left_old left_new : Option (List ℕ)) (was is : FileKind → Option (List ℕ)) (stored_was stored_is : FileKind → ℕ) (out : Option (List ℕ)) (why : Stop) →
+    BuiltAs limits p bytes (sides_of left_old left_new was is stored_was stored_is out out) (Err why) → Ends (done_with command (reading limits bytes)) (sides_of left_old left_new was is stored_was stored_is out out) (Err why)
+unbuilt_ends command limits p bytes left_old left_new was is stored_was stored_is out (stop.Text fault) h = record { gives = ap (done_with command) h.0; same = refl; files = h.1 }
+unbuilt_ends command limits p bytes left_old left_new was is stored_was stored_is out stop.Read h = record { same = refl; files = h }
+unbuilt_ends command limits p bytes left_old left_new was is stored_was stored_is out stop.Memory h = record { same = refl; files = inl h }
+unbuilt_ends command limits p bytes left_old left_new was is stored_was stored_is out stop.Depot h = inl refl
+unbuilt_ends command limits p bytes left_old left_new was is stored_was stored_is out stop.Write h = absurd h
+unbuilt_ends command limits p bytes left_old left_new was is stored_was stored_is out (stop.Damaged file place found) h = absurd h
+unbuilt_ends command limits p bytes left_old left_new was is stored_was stored_is out (stop.Usage fault) h = absurd h
+unbuilt_ends command limits p bytes left_old left_new was is stored_was stored_is out (stop.TooMany many) h = absurd h
+unbuilt_ends command limits p bytes left_old left_new was is stored_was stored_is out (stop.BadSchedule line) h = absurd h
+unbuilt_ends command limits p bytes left_old left_new was is stored_was stored_is out (stop.ScheduleEnded line) h = absurd h
+unbuilt_ends command limits p bytes left_old left_new was is stored_was stored_is out (stop.TooManyEvents limit) h = absurd h
+unbuilt_ends command limits p bytes left_old left_new was is stored_was stored_is out (stop.Illegal event why) h = absurd h
 
-pub unbuilt_done : (command : Listed → Did) (limits : TextLimits) (p : ℕ) (left_old left_new : Option (List ℕ)) (was is : FileKind → Option (List ℕ)) (out : Option (List ℕ)) (why : Stop) →
-    HasGridBuilt limits p (sides_of left_old left_new was is out out) (Err why) → HasDone command limits (sides_of left_old left_new was is out out) (Err why)
-unbuilt_done command limits p left_old left_new was is out why h = record {
+pub unbuilt_done : (command : Listed → Did) (limits : TextLimits) (p : ℕ) (left_old left_new : Option (List ℕ)) (was is : FileKind → Option (List ℕ)) (stored_was stored_is : FileKind → ℕ) (out : Option (List ℕ)) (why : Stop) →
+    HasGridBuilt limits p (sides_of left_old left_new was is stored_was stored_is out out) (Err why) → HasDone command limits (sides_of left_old left_new was is stored_was stored_is out out) (Err why)
+unbuilt_done command limits p left_old left_new was is stored_was stored_is out why h = record {
   bytes = h.bytes;
   told = h.told;
-  ends = unbuilt_ends command limits p h.bytes left_old left_new was is out why h.builds;
+  ends = unbuilt_ends command limits p h.bytes left_old left_new was is stored_was stored_is out why h.builds;
   ended = λ ok. absurd (cc);
 }
 
@@ -111,9 +111,9 @@ written_whole old new (Ok done) text ok wrote = wrote.whole
 written_whole old new (Err failed) text ok wrote = absurd (cc)
 
 -- a grid that was built, and its line was written
-pub built_done : (limits : TextLimits) (p : ℕ) (left_old left_new : Option (List ℕ)) (was is : FileKind → Option (List ℕ)) (out new : Option (List ℕ)) (info : GridInfo) →
-    HasGridBuilt limits p (sides_of left_old left_new was is out out) (Ok info) → new ≡ after_told out (grid_line info.vertices info.edges info.parts) → HasDone (did_build p) limits (sides_of left_old left_new was is out new) (Ok Build)
-built_done limits p left_old left_new was is out new info h wrote =
+pub built_done : (limits : TextLimits) (p : ℕ) (left_old left_new : Option (List ℕ)) (was is : FileKind → Option (List ℕ)) (stored_was stored_is : FileKind → ℕ) (out new : Option (List ℕ)) (info : GridInfo) →
+    HasGridBuilt limits p (sides_of left_old left_new was is stored_was stored_is out out) (Ok info) → new ≡ after_told out (grid_line info.vertices info.edges info.parts) → HasDone (did_build p) limits (sides_of left_old left_new was is stored_was stored_is out new) (Ok Build)
+built_done limits p left_old left_new was is stored_was stored_is out new info h wrote =
     let b = h.builds.0 in record {
       bytes = h.bytes;
       told = h.told;
@@ -128,9 +128,9 @@ built_done limits p left_old left_new was is out new info h wrote =
       ended = λ ok. h.builds.1;
     }
 
-pub built_cut : (limits : TextLimits) (p : ℕ) (left_old left_new : Option (List ℕ)) (was is : FileKind → Option (List ℕ)) (out new : Option (List ℕ)) (info : GridInfo) →
-    HasGridBuilt limits p (sides_of left_old left_new was is out out) (Ok info) → AppendsFront out new (grid_line info.vertices info.edges info.parts) → HasDone (did_build p) limits (sides_of left_old left_new was is out new) (Err stop.Write)
-built_cut limits p left_old left_new was is out new info h front =
+pub built_cut : (limits : TextLimits) (p : ℕ) (left_old left_new : Option (List ℕ)) (was is : FileKind → Option (List ℕ)) (stored_was stored_is : FileKind → ℕ) (out new : Option (List ℕ)) (info : GridInfo) →
+    HasGridBuilt limits p (sides_of left_old left_new was is stored_was stored_is out out) (Ok info) → AppendsFront out new (grid_line info.vertices info.edges info.parts) → HasDone (did_build p) limits (sides_of left_old left_new was is stored_was stored_is out new) (Err stop.Write)
+built_cut limits p left_old left_new was is stored_was stored_is out new info h front =
     let b = h.builds.0 in record {
       bytes = h.bytes;
       told = h.told;
@@ -311,9 +311,9 @@ abbrev pub completed_run : Result Ended Stop → Result Completed Stop
 completed_run (Ok end) = Ok (Run end)
 completed_run (Err why) = Err why
 
-ran_ends : (program : ProgramName) (iterations : ℕ) (mode : Mode) (limits : TextLimits) (p : ℕ) (bytes : List ℕ) (left_old left_new : Option (List ℕ)) (was is now : FileKind → Option (List ℕ)) (out new : Option (List ℕ)) (info : GridInfo) (b : IsBuilt limits p bytes was is info) (r : Result Ended Stop) → Same is now → IfOk r (EndShown (IsOverAt iterations info (IsOverIn program)) (IsReportOf program iterations mode info out new)) → IfErr r (λ why. IfDamaged why (IsWrongIn iterations mode info)) → Leaves (ran_as program p iterations mode b.list) is out new r →
-    Ends (done_with (did_run program iterations mode p) (reading limits bytes)) (sides_of left_old left_new was now out new) (completed_run r)
-ran_ends program iterations mode limits p bytes left_old left_new was is now out new info b (Ok end) same shown wrong h = record {
+ran_ends : (program : ProgramName) (iterations : ℕ) (mode : Mode) (limits : TextLimits) (p : ℕ) (bytes : List ℕ) (left_old left_new : Option (List ℕ)) (was is now : FileKind → Option (List ℕ)) (stored_was stored_is stored_now : FileKind → ℕ) (out new : Option (List ℕ)) (info : GridInfo) (b : IsBuilt limits p bytes was is info) (r : Result Ended Stop) → Same is now → IfOk r (EndShown (IsOverAt iterations info (IsOverIn program)) (IsReportOf program iterations mode info out new)) → IfErr r (λ why. IfDamaged why (IsWrongIn iterations mode info)) → Leaves (ran_as program p iterations mode b.list) is out new r →
+    Ends (done_with (did_run program iterations mode p) (reading limits bytes)) (sides_of left_old left_new was now stored_was stored_now out new) (completed_run r)
+ran_ends program iterations mode limits p bytes left_old left_new was is now stored_was stored_is stored_now out new info b (Ok end) same shown wrong h = record {
   did = did_run program iterations mode p b.list;
   gives = ap (done_with (did_run program iterations mode p)) b.is;
   kind = refl;
@@ -323,19 +323,19 @@ ran_ends program iterations mode limits p bytes left_old left_new was is now out
       record { status = ap ending_status k.0; line = ap ending_line k.0; written = k.1 };
   files = still_files _ was is now same b.files;
 }
-ran_ends program iterations mode limits p bytes left_old left_new was is now out new info b (Err stop.Write) same shown wrong h = record {
+ran_ends program iterations mode limits p bytes left_old left_new was is now stored_was stored_is stored_now out new info b (Err stop.Write) same shown wrong h = record {
   did = did_run program iterations mode p b.list;
   gives = ap (done_with (did_run program iterations mode p)) b.is;
   front = λ told. h (told_before (was Meta) (is Meta) _ b.files.meta_file told);
   files = still_files _ was is now same b.files;
 }
-ran_ends program iterations mode limits p bytes left_old left_new was is now out new info b (Err stop.Depot) same shown wrong h = inr (record {
+ran_ends program iterations mode limits p bytes left_old left_new was is now stored_was stored_is stored_now out new info b (Err stop.Depot) same shown wrong h = inr (record {
   did = did_run program iterations mode p b.list;
   gives = ap (done_with (did_run program iterations mode p)) b.is;
   front = λ told. h (told_before (was Meta) (is Meta) _ b.files.meta_file told);
   files = still_files _ was is now same b.files;
 })
-ran_ends program iterations mode limits p bytes left_old left_new was is now out new info b (Err (stop.Damaged kind place found)) same shown wrong h = record {
+ran_ends program iterations mode limits p bytes left_old left_new was is now stored_was stored_is stored_now out new info b (Err (stop.Damaged kind place found)) same shown wrong h = record {
   did = did_run program iterations mode p b.list;
   gives = ap (done_with (did_run program iterations mode p)) b.is;
   untold = λ told. h (told_before (was Meta) (is Meta) _ b.files.meta_file told);
@@ -344,22 +344,25 @@ ran_ends program iterations mode limits p bytes left_old left_new was is now out
   is_run = refl;
   wrong = subst (λ i. IsWrongIn iterations mode i kind place found) b.head wrong;
 }
-ran_ends program iterations mode limits p bytes left_old left_new was is now out new info b (Err stop.Memory) same shown wrong h = h
-ran_ends program iterations mode limits p bytes left_old left_new was is now out new info b (Err stop.Read) same shown wrong h = absurd h
-ran_ends program iterations mode limits p bytes left_old left_new was is now out new info b (Err (stop.Usage fault)) same shown wrong h = absurd h
-ran_ends program iterations mode limits p bytes left_old left_new was is now out new info b (Err (stop.TooMany many)) same shown wrong h = absurd h
-ran_ends program iterations mode limits p bytes left_old left_new was is now out new info b (Err (stop.Text fault)) same shown wrong h = absurd h
-ran_ends program iterations mode limits p bytes left_old left_new was is now out new info b (Err (stop.BadSchedule line)) same shown wrong h = absurd h
-ran_ends program iterations mode limits p bytes left_old left_new was is now out new info b (Err (stop.ScheduleEnded line)) same shown wrong h = absurd h
-ran_ends program iterations mode limits p bytes left_old left_new was is now out new info b (Err (stop.TooManyEvents limit)) same shown wrong h = absurd h
-ran_ends program iterations mode limits p bytes left_old left_new was is now out new info b (Err (stop.Illegal event why)) same shown wrong h = absurd h
+ran_ends program iterations mode limits p bytes left_old left_new was is now stored_was stored_is stored_now out new info b (Err stop.Memory) same shown wrong h = record {
+  same = h;
+  files = inr (record { did = did_run program iterations mode p b.list; gives = ap (done_with (did_run program iterations mode p)) b.is; files = still_files _ was is now same b.files });
+}
+ran_ends program iterations mode limits p bytes left_old left_new was is now stored_was stored_is stored_now out new info b (Err stop.Read) same shown wrong h = absurd h
+ran_ends program iterations mode limits p bytes left_old left_new was is now stored_was stored_is stored_now out new info b (Err (stop.Usage fault)) same shown wrong h = absurd h
+ran_ends program iterations mode limits p bytes left_old left_new was is now stored_was stored_is stored_now out new info b (Err (stop.TooMany many)) same shown wrong h = absurd h
+ran_ends program iterations mode limits p bytes left_old left_new was is now stored_was stored_is stored_now out new info b (Err (stop.Text fault)) same shown wrong h = absurd h
+ran_ends program iterations mode limits p bytes left_old left_new was is now stored_was stored_is stored_now out new info b (Err (stop.BadSchedule line)) same shown wrong h = absurd h
+ran_ends program iterations mode limits p bytes left_old left_new was is now stored_was stored_is stored_now out new info b (Err (stop.ScheduleEnded line)) same shown wrong h = absurd h
+ran_ends program iterations mode limits p bytes left_old left_new was is now stored_was stored_is stored_now out new info b (Err (stop.TooManyEvents limit)) same shown wrong h = absurd h
+ran_ends program iterations mode limits p bytes left_old left_new was is now stored_was stored_is stored_now out new info b (Err (stop.Illegal event why)) same shown wrong h = absurd h
 
-pub ran_done : (program : ProgramName) (iterations : ℕ) (mode : Mode) (limits : TextLimits) (p : ℕ) (left_old left_new : Option (List ℕ)) (was is now : FileKind → Option (List ℕ)) (out new : Option (List ℕ)) (info : GridInfo) (r : Result Ended Stop) →
-    (h : HasGridBuilt limits p (sides_of left_old left_new was is out out) (Ok info)) → Same is now → IfOk r (EndShown (IsOverAt iterations info (IsOverIn program)) (IsReportOf program iterations mode info out new)) → IfErr r (λ why. IfDamaged why (IsWrongIn iterations mode info)) → Leaves (ran_as program p iterations mode h.builds.0.list) is out new r → HasDone (did_run program iterations mode p) limits (sides_of left_old left_new was now out new) (completed_run r)
-ran_done program iterations mode limits p left_old left_new was is now out new info r h same shown wrong leaves = record {
+pub ran_done : (program : ProgramName) (iterations : ℕ) (mode : Mode) (limits : TextLimits) (p : ℕ) (left_old left_new : Option (List ℕ)) (was is now : FileKind → Option (List ℕ)) (stored_was stored_is stored_now : FileKind → ℕ) (out new : Option (List ℕ)) (info : GridInfo) (r : Result Ended Stop) →
+    (h : HasGridBuilt limits p (sides_of left_old left_new was is stored_was stored_is out out) (Ok info)) → Same is now → IfOk r (EndShown (IsOverAt iterations info (IsOverIn program)) (IsReportOf program iterations mode info out new)) → IfErr r (λ why. IfDamaged why (IsWrongIn iterations mode info)) → Leaves (ran_as program p iterations mode h.builds.0.list) is out new r → HasDone (did_run program iterations mode p) limits (sides_of left_old left_new was now stored_was stored_now out new) (completed_run r)
+ran_done program iterations mode limits p left_old left_new was is now stored_was stored_is stored_now out new info r h same shown wrong leaves = record {
   bytes = h.bytes;
   told = h.told;
-  ends = ran_ends program iterations mode limits p h.bytes left_old left_new was is now out new info h.builds.0 r same shown wrong leaves;
+  ends = ran_ends program iterations mode limits p h.bytes left_old left_new was is now stored_was stored_is stored_now out new info h.builds.0 r same shown wrong leaves;
   ended = λ ok. h.builds.1;
 }
 
@@ -396,22 +399,22 @@ ended_takes program iterations mode p list was is first before after (Ok (ended.
 ended_takes program iterations mode p list was is first before after (Ok (ended.Limit iteration)) still copied unread h = λ done. both_took program iterations mode p list was is first before after still copied unread h
 ended_takes program iterations mode p list was is first before after (Err why) still copied unread h = tt
 
-pub ran_takes : (program : ProgramName) (iterations : ℕ) (mode : Mode) (limits : TextLimits) (p : ℕ) (left_old left_new : Option (List ℕ)) (was is : FileKind → Option (List ℕ)) (out : Option (List ℕ)) (info : GridInfo) (first before after : FileKind → ℕ) (r : Result Ended Stop) (bytes : List ℕ) → ((j k : FileKind) → is_some (is j) ≡ is_some (is k)) →
-    (h : HasGridBuilt limits p (sides_of left_old left_new was is out out) (Ok info)) → left_old ≡ Some bytes → IfSome (is Secondary) (λ file. RoseBy (first Primary) (before Primary) (length file)) → before Secondary ≡ first Secondary → RunTakes (ran_as program p iterations mode h.builds.0.list) is before after r → TakesAs (done_with (did_run program iterations mode p) (reading limits bytes)) was first after (completed_run r)
-ran_takes program iterations mode limits p left_old left_new was is out info first before after r bytes all h told copied unread takes =
+pub ran_takes : (program : ProgramName) (iterations : ℕ) (mode : Mode) (limits : TextLimits) (p : ℕ) (left_old left_new : Option (List ℕ)) (was is : FileKind → Option (List ℕ)) (stored_was stored_is : FileKind → ℕ) (out : Option (List ℕ)) (info : GridInfo) (first before after : FileKind → ℕ) (r : Result Ended Stop) (bytes : List ℕ) → ((j k : FileKind) → is_some (is j) ≡ is_some (is k)) →
+    (h : HasGridBuilt limits p (sides_of left_old left_new was is stored_was stored_is out out) (Ok info)) → left_old ≡ Some bytes → IfSome (is Secondary) (λ file. RoseBy (first Primary) (before Primary) (length file)) → before Secondary ≡ first Secondary → RunTakes (ran_as program p iterations mode h.builds.0.list) is before after r → TakesAs (done_with (did_run program iterations mode p) (reading limits bytes)) was first after (completed_run r)
+ran_takes program iterations mode limits p left_old left_new was is stored_was stored_is out info first before after r bytes all h told copied unread takes =
     let b = h.builds.0 in
-    takes_by _ _ was first after (completed_run r) (ap (done_with (did_run program iterations mode p)) (read_is limits p (sides_of left_old left_new was is out out) info h bytes told))
+    takes_by _ _ was first after (completed_run r) (ap (done_with (did_run program iterations mode p)) (read_is limits p (sides_of left_old left_new was is stored_was stored_is out out) info h bytes told))
     (ended_takes program iterations mode p b.list was is first before after r (told_before (was Meta) (is Meta) _ b.files.meta_file)
     (copied_is (grid b.list.edges b.list.vertices p) was is (first Primary) (before Primary) all b.files copied) unread takes)
 
 none_taken : (before after : ℕ) → after ≡ before → RoseBy before after 0
 none_taken before after same below = omega (arith, same)
 
-pub built_takes : (limits : TextLimits) (p : ℕ) (left_old left_new : Option (List ℕ)) (was is : FileKind → Option (List ℕ)) (out : Option (List ℕ)) (info : GridInfo) (before after : FileKind → ℕ) (bytes : List ℕ) → ((j k : FileKind) → is_some (is j) ≡ is_some (is k)) →
-    HasGridBuilt limits p (sides_of left_old left_new was is out out) (Ok info) → left_old ≡ Some bytes → IfSome (is Secondary) (λ file. RoseBy (before Primary) (after Primary) (length file)) → after Secondary ≡ before Secondary → TakesAs (done_with (did_build p) (reading limits bytes)) was before after (Ok Build)
-built_takes limits p left_old left_new was is out info before after bytes all h told copied unread =
+pub built_takes : (limits : TextLimits) (p : ℕ) (left_old left_new : Option (List ℕ)) (was is : FileKind → Option (List ℕ)) (stored_was stored_is : FileKind → ℕ) (out : Option (List ℕ)) (info : GridInfo) (before after : FileKind → ℕ) (bytes : List ℕ) → ((j k : FileKind) → is_some (is j) ≡ is_some (is k)) →
+    HasGridBuilt limits p (sides_of left_old left_new was is stored_was stored_is out out) (Ok info) → left_old ≡ Some bytes → IfSome (is Secondary) (λ file. RoseBy (before Primary) (after Primary) (length file)) → after Secondary ≡ before Secondary → TakesAs (done_with (did_build p) (reading limits bytes)) was before after (Ok Build)
+built_takes limits p left_old left_new was is stored_was stored_is out info before after bytes all h told copied unread =
     let b = h.builds.0 in
-    takes_by _ _ was before after (Ok Build) (ap (done_with (did_build p)) (read_is limits p (sides_of left_old left_new was is out out) info h bytes told)) (λ done. record {
+    takes_by _ _ was before after (Ok Build) (ap (done_with (did_build p)) (read_is limits p (sides_of left_old left_new was is stored_was stored_is out out) info h bytes told)) (λ done. record {
       primary = copied_is (grid b.list.edges b.list.vertices p) was is (before Primary) (after Primary) all b.files copied;
       secondary = none_taken (before Secondary) (after Secondary) unread;
     })

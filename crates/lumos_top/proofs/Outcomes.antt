@@ -12,7 +12,7 @@ use Rattle.edge_text.specs.declared.fault.TextFault.TheVariants.{Input, TooManyE
 use Rattle.lumos_report.specs.declared.records.Ending.{Ending as EndingRecord}
 use Rattle.lumos_report.specs.declared.records.Why.TheVariants as why
 use Rattle.lumos_top.specs.Outcome.{Did, RunOn, answer, built_head, outcome_of, stop_line, stop_status}
-use Rattle.lumos_top.specs.Running.{Comes, Ends, EndsOn, GetsLine, HasOutcome, IfTold, IsCut, IsCutOutcome, IsDamaged, IsOutcome, IsPlaced, IsAttached, IsRefused, IsReportOf, IsReported, IsStopped, IsToldOutcome, IsWritten, RunShown, Sides, StopsAtWords, Takes, TakesAs, UnlessGrid, done_line, done_status, end_line, end_status, is_of_run}
+use Rattle.lumos_top.specs.Running.{Comes, Ends, EndsOn, FilesAre, GetsLine, HasOutcome, IfTold, IsCut, IsCutOutcome, IsDamaged, IsMade, IsOutcome, IsPlaced, IsAttached, IsRefused, IsReportOf, IsReported, IsStopped, IsToldOutcome, IsWritten, NoMeta, RunShown, Sides, StopsAtWords, Takes, TakesAs, UnlessGrid, done_line, done_status, end_line, end_status, is_of_run}
 use Rattle.lumos_top.specs.declared.status.Completed.{Completed}
 use Rattle.lumos_top.specs.declared.status.Completed.TheVariants.{Run, Build, Replay}
 use Rattle.lumos_top.specs.declared.status.Ended.TheVariants.{Over, Still, Limit}
@@ -49,6 +49,10 @@ cut answer sides h = subst (λ a. IsCutOutcome (outcome_of a) sides) (sym h.give
 stopped : (answer : Result Did Stop) (sides : Sides) → IsStopped answer sides → (sides.new_out ≡ sides.old_out) ⊎ IsCutOutcome (outcome_of answer) sides
 stopped answer sides (inl same) = inl same
 stopped answer sides (inr h) = inr (cut answer sides h)
+
+wanting : (answer : Result Did Stop) (sides : Sides) → NoMeta sides ⊎ IsMade answer sides → NoMeta sides ⊎ FilesAre (outcome_of answer).built sides.was sides.is
+wanting answer sides (inl none) = inl none
+wanting answer sides (inr made) = inr (subst (λ a. FilesAre (outcome_of a).built sides.was sides.is) (sym made.gives) made.files)
 
 no_files : (told : Option (List ℕ)) → (IsSome told → ⊥) → told ≡ None
 no_files None never = refl
@@ -119,7 +123,7 @@ comes_at answer sides (Ok (Run (Still iteration))) h = (refl, done answer sides 
 comes_at answer sides (Ok (Run (Limit iteration))) h = (refl, done answer sides (Run (Limit iteration)) h, run_done answer sides (Run (Limit iteration)) (record { iterations = iteration; why = why.Limit }) h h.shown)
 comes_at answer sides (Ok Build) h = (refl, done answer sides Build h, other_done answer sides Build refl h)
 comes_at answer sides (Ok Replay) h = (refl, done answer sides Replay h, other_done answer sides Replay refl h)
-comes_at answer sides (Err stop.Memory) h = (refl, h)
+comes_at answer sides (Err stop.Memory) h = (refl, h.same, wanting answer sides h.files)
 comes_at answer sides (Err stop.Read) h = (refl, h)
 comes_at answer sides (Err stop.Depot) h = (refl, stopped answer sides h)
 comes_at answer sides (Err stop.Write) h = (refl, cut answer sides h)

@@ -1,5 +1,5 @@
 -- How a replay ends over the outside.
-use Rattle.std.proofs.Common.{◌≡◌, ◌<◌, ◌≤◌, ℕ, ltb, List, [], ◌++◌, length, Option, None, Result, Ok, Err, refl, ap, subst, ◌∙◌}
+use Rattle.std.proofs.Common.{inl, ◌≡◌, ◌<◌, ◌≤◌, ℕ, ltb, List, [], ◌++◌, length, Option, None, Result, Ok, Err, refl, ap, subst, ◌∙◌}
 use Rattle.std.proofs.lemmas.Bool.{cond-false, cond-true, le-ltb, lt-ltb}
 use Rattle.flight_core.specs.Replayed.{Replayed, begun}
 use Rattle.flight_core.specs.declared.event.Event.{Event}
@@ -66,38 +66,38 @@ pub parts_many : (program : ProgramName) (parts : ℕ) (input : List ℕ) → 64
 parts_many program parts input many = cond-true (ltb 64 parts) _ _ (lt-ltb 64 parts many)
 
 -- the outside of a command that leaves all files as they are
-abbrev pub sides_with : Option (List ℕ) → Option (List ℕ) → (FileKind → Option (List ℕ)) → Option (List ℕ) → Option (List ℕ) → Sides
-sides_with left_old left_new files old_out new_out = record { left_old = left_old; left_new = left_new; was = files; is = files; old_out = old_out; new_out = new_out }
+abbrev pub sides_with : Option (List ℕ) → Option (List ℕ) → (FileKind → Option (List ℕ)) → (FileKind → ℕ) → Option (List ℕ) → Option (List ℕ) → Sides
+sides_with left_old left_new files stored old_out new_out = record { left_old = left_old; left_new = left_new; was = files; is = files; stored_was = stored; stored_is = stored; old_out = old_out; new_out = new_out }
 
 -- an input that stops it
-stream_ends : (program : ProgramName) (parts : ℕ) (bytes : List ℕ) (left_old left_new : Option (List ℕ)) (files : FileKind → Option (List ℕ)) (out : Option (List ℕ)) (why : Stop) → parts ≤ 64 → StopsBy (streamed 1099511627776 bytes) why →
-    Ends (did_within program parts bytes) (sides_with left_old left_new files out out) (Err why)
-stream_ends program parts bytes left_old left_new files out stop.Memory few h = refl
-stream_ends program parts bytes left_old left_new files out stop.Read few h = record { same = refl; files = same_grid files }
-stream_ends program parts bytes left_old left_new files out stop.Depot few h = absurd h
-stream_ends program parts bytes left_old left_new files out stop.Write few h = absurd h
-stream_ends program parts bytes left_old left_new files out (stop.Damaged file place found) few h = absurd h
-stream_ends program parts bytes left_old left_new files out (stop.Usage fault) few h = absurd h
-stream_ends program parts bytes left_old left_new files out (stop.TooMany many) few h = absurd h
-stream_ends program parts bytes left_old left_new files out (stop.Illegal event why) few h = absurd h
-stream_ends program parts bytes left_old left_new files out (stop.Text fault) few h = record { gives = parts_few program parts bytes few ∙ ap (replay_with program parts) h; same = refl; files = same_grid files }
-stream_ends program parts bytes left_old left_new files out (stop.BadSchedule line) few h = record { gives = parts_few program parts bytes few ∙ ap (replay_with program parts) h; same = refl; files = same_grid files }
-stream_ends program parts bytes left_old left_new files out (stop.ScheduleEnded line) few h = record { gives = parts_few program parts bytes few ∙ ap (replay_with program parts) h; same = refl; files = same_grid files }
-stream_ends program parts bytes left_old left_new files out (stop.TooManyEvents limit) few h = record { gives = parts_few program parts bytes few ∙ ap (replay_with program parts) h; same = refl; files = same_grid files }
+stream_ends : (program : ProgramName) (parts : ℕ) (bytes : List ℕ) (left_old left_new : Option (List ℕ)) (files : FileKind → Option (List ℕ)) (stored : FileKind → ℕ) (out : Option (List ℕ)) (why : Stop) → parts ≤ 64 → StopsBy (streamed 1099511627776 bytes) why →
+    Ends (did_within program parts bytes) (sides_with left_old left_new files stored out out) (Err why)
+stream_ends program parts bytes left_old left_new files stored out stop.Memory few h = record { same = refl; files = inl refl }
+stream_ends program parts bytes left_old left_new files stored out stop.Read few h = record { same = refl; files = same_grid files }
+stream_ends program parts bytes left_old left_new files stored out stop.Depot few h = absurd h
+stream_ends program parts bytes left_old left_new files stored out stop.Write few h = absurd h
+stream_ends program parts bytes left_old left_new files stored out (stop.Damaged file place found) few h = absurd h
+stream_ends program parts bytes left_old left_new files stored out (stop.Usage fault) few h = absurd h
+stream_ends program parts bytes left_old left_new files stored out (stop.TooMany many) few h = absurd h
+stream_ends program parts bytes left_old left_new files stored out (stop.Illegal event why) few h = absurd h
+stream_ends program parts bytes left_old left_new files stored out (stop.Text fault) few h = record { gives = parts_few program parts bytes few ∙ ap (replay_with program parts) h; same = refl; files = same_grid files }
+stream_ends program parts bytes left_old left_new files stored out (stop.BadSchedule line) few h = record { gives = parts_few program parts bytes few ∙ ap (replay_with program parts) h; same = refl; files = same_grid files }
+stream_ends program parts bytes left_old left_new files stored out (stop.ScheduleEnded line) few h = record { gives = parts_few program parts bytes few ∙ ap (replay_with program parts) h; same = refl; files = same_grid files }
+stream_ends program parts bytes left_old left_new files stored out (stop.TooManyEvents limit) few h = record { gives = parts_few program parts bytes few ∙ ap (replay_with program parts) h; same = refl; files = same_grid files }
 
-pub stream_stopped : (program : ProgramName) (parts : ℕ) (left_old left_new : Option (List ℕ)) (files : FileKind → Option (List ℕ)) (out : Option (List ℕ)) (why : Stop) → parts ≤ 64 → HasStreamed left_old left_new (Err why) →
-    EndsOn (did_within program parts) (sides_with left_old left_new files out out) (Err why)
-stream_stopped program parts left_old left_new files out why few h = record {
+pub stream_stopped : (program : ProgramName) (parts : ℕ) (left_old left_new : Option (List ℕ)) (files : FileKind → Option (List ℕ)) (stored : FileKind → ℕ) (out : Option (List ℕ)) (why : Stop) → parts ≤ 64 → HasStreamed left_old left_new (Err why) →
+    EndsOn (did_within program parts) (sides_with left_old left_new files stored out out) (Err why)
+stream_stopped program parts left_old left_new files stored out why few h = record {
   bytes = h.bytes;
   told = h.told;
-  ends = stream_ends program parts h.bytes left_old left_new files out why few h.reads;
+  ends = stream_ends program parts h.bytes left_old left_new files stored out why few h.reads;
   ended = λ ok. absurd (cc);
 }
 
 -- events and a list that were read, and what is shown of them
-done_ends : (program : ProgramName) (parts : ℕ) (bytes : List ℕ) (s : Streamed) (left_old left_new : Option (List ℕ)) (files : FileKind → Option (List ℕ)) (old new : Option (List ℕ)) → parts ≤ 64 → streamed 1099511627776 bytes ≡ Ok s → Shows (replay_text program parts s) old new (Ok tt) →
-    Ends (did_within program parts bytes) (sides_with left_old left_new files old new) (Ok Replay)
-done_ends program parts bytes s left_old left_new files old new few is h = record {
+done_ends : (program : ProgramName) (parts : ℕ) (bytes : List ℕ) (s : Streamed) (left_old left_new : Option (List ℕ)) (files : FileKind → Option (List ℕ)) (stored : FileKind → ℕ) (old new : Option (List ℕ)) → parts ≤ 64 → streamed 1099511627776 bytes ≡ Ok s → Shows (replay_text program parts s) old new (Ok tt) →
+    Ends (did_within program parts bytes) (sides_with left_old left_new files stored old new) (Ok Replay)
+done_ends program parts bytes s left_old left_new files stored old new few is h = record {
   did = record { text = h.text; status = status.Done; line = []; built = None; run = None; primary = 0; secondary = 0 };
   gives = parts_few program parts bytes few ∙ ap (replay_with program parts) is ∙ ap did_replay h.gives;
   kind = refl;
@@ -106,42 +106,42 @@ done_ends program parts bytes s left_old left_new files old new few is h = recor
   files = same_grid files;
 }
 
-failed_ends : (program : ProgramName) (parts : ℕ) (bytes : List ℕ) (s : Streamed) (left_old left_new : Option (List ℕ)) (files : FileKind → Option (List ℕ)) (old new : Option (List ℕ)) (why : Stop) → parts ≤ 64 → streamed 1099511627776 bytes ≡ Ok s → Shows (replay_text program parts s) old new (Err why) →
-    Ends (did_within program parts bytes) (sides_with left_old left_new files old new) (Err why)
-failed_ends program parts bytes s left_old left_new files old new stop.Memory few is h = h
-failed_ends program parts bytes s left_old left_new files old new stop.Write few is h = record {
+failed_ends : (program : ProgramName) (parts : ℕ) (bytes : List ℕ) (s : Streamed) (left_old left_new : Option (List ℕ)) (files : FileKind → Option (List ℕ)) (stored : FileKind → ℕ) (old new : Option (List ℕ)) (why : Stop) → parts ≤ 64 → streamed 1099511627776 bytes ≡ Ok s → Shows (replay_text program parts s) old new (Err why) →
+    Ends (did_within program parts bytes) (sides_with left_old left_new files stored old new) (Err why)
+failed_ends program parts bytes s left_old left_new files stored old new stop.Memory few is h = record { same = h; files = inl refl }
+failed_ends program parts bytes s left_old left_new files stored old new stop.Write few is h = record {
   did = record { text = h.text; status = status.Done; line = []; built = None; run = None; primary = 0; secondary = 0 };
   gives = parts_few program parts bytes few ∙ ap (replay_with program parts) is ∙ ap did_replay h.gives;
   front = h.front;
   files = same_grid files;
 }
-failed_ends program parts bytes s left_old left_new files old new (stop.Illegal event why) few is h =
+failed_ends program parts bytes s left_old left_new files stored old new (stop.Illegal event why) few is h =
     record { gives = parts_few program parts bytes few ∙ ap (replay_with program parts) is ∙ ap did_replay h.0; same = h.1; files = same_grid files }
-failed_ends program parts bytes s left_old left_new files old new stop.Read few is h = absurd h
-failed_ends program parts bytes s left_old left_new files old new stop.Depot few is h = absurd h
-failed_ends program parts bytes s left_old left_new files old new (stop.Damaged file place found) few is h = absurd h
-failed_ends program parts bytes s left_old left_new files old new (stop.Usage fault) few is h = absurd h
-failed_ends program parts bytes s left_old left_new files old new (stop.TooMany many) few is h = absurd h
-failed_ends program parts bytes s left_old left_new files old new (stop.Text fault) few is h = absurd h
-failed_ends program parts bytes s left_old left_new files old new (stop.BadSchedule line) few is h = absurd h
-failed_ends program parts bytes s left_old left_new files old new (stop.ScheduleEnded line) few is h = absurd h
-failed_ends program parts bytes s left_old left_new files old new (stop.TooManyEvents limit) few is h = absurd h
+failed_ends program parts bytes s left_old left_new files stored old new stop.Read few is h = absurd h
+failed_ends program parts bytes s left_old left_new files stored old new stop.Depot few is h = absurd h
+failed_ends program parts bytes s left_old left_new files stored old new (stop.Damaged file place found) few is h = absurd h
+failed_ends program parts bytes s left_old left_new files stored old new (stop.Usage fault) few is h = absurd h
+failed_ends program parts bytes s left_old left_new files stored old new (stop.TooMany many) few is h = absurd h
+failed_ends program parts bytes s left_old left_new files stored old new (stop.Text fault) few is h = absurd h
+failed_ends program parts bytes s left_old left_new files stored old new (stop.BadSchedule line) few is h = absurd h
+failed_ends program parts bytes s left_old left_new files stored old new (stop.ScheduleEnded line) few is h = absurd h
+failed_ends program parts bytes s left_old left_new files stored old new (stop.TooManyEvents limit) few is h = absurd h
 
-pub replay_done : (program : ProgramName) (parts : ℕ) (stream : Stream) (left_old left_new : Option (List ℕ)) (files : FileKind → Option (List ℕ)) (old new : Option (List ℕ)) → parts ≤ 64 → HasStreamed left_old left_new (Ok stream) → Shows (replay_text program parts (streamed_of stream)) old new (Ok tt) →
-    EndsOn (did_within program parts) (sides_with left_old left_new files old new) (Ok Replay)
-replay_done program parts stream left_old left_new files old new few h shows = record {
+pub replay_done : (program : ProgramName) (parts : ℕ) (stream : Stream) (left_old left_new : Option (List ℕ)) (files : FileKind → Option (List ℕ)) (stored : FileKind → ℕ) (old new : Option (List ℕ)) → parts ≤ 64 → HasStreamed left_old left_new (Ok stream) → Shows (replay_text program parts (streamed_of stream)) old new (Ok tt) →
+    EndsOn (did_within program parts) (sides_with left_old left_new files stored old new) (Ok Replay)
+replay_done program parts stream left_old left_new files stored old new few h shows = record {
   bytes = h.bytes;
   told = h.told;
-  ends = done_ends program parts h.bytes (streamed_of stream) left_old left_new files old new few h.reads.0 shows;
+  ends = done_ends program parts h.bytes (streamed_of stream) left_old left_new files stored old new few h.reads.0 shows;
   ended = λ ok told. h.reads.1 h.bytes told;
 }
 
-pub replay_failed : (program : ProgramName) (parts : ℕ) (stream : Stream) (left_old left_new : Option (List ℕ)) (files : FileKind → Option (List ℕ)) (old new : Option (List ℕ)) (why : Stop) → parts ≤ 64 → HasStreamed left_old left_new (Ok stream) → Shows (replay_text program parts (streamed_of stream)) old new (Err why) →
-    EndsOn (did_within program parts) (sides_with left_old left_new files old new) (Err why)
-replay_failed program parts stream left_old left_new files old new why few h shows = record {
+pub replay_failed : (program : ProgramName) (parts : ℕ) (stream : Stream) (left_old left_new : Option (List ℕ)) (files : FileKind → Option (List ℕ)) (stored : FileKind → ℕ) (old new : Option (List ℕ)) (why : Stop) → parts ≤ 64 → HasStreamed left_old left_new (Ok stream) → Shows (replay_text program parts (streamed_of stream)) old new (Err why) →
+    EndsOn (did_within program parts) (sides_with left_old left_new files stored old new) (Err why)
+replay_failed program parts stream left_old left_new files stored old new why few h shows = record {
   bytes = h.bytes;
   told = h.told;
-  ends = failed_ends program parts h.bytes (streamed_of stream) left_old left_new files old new why few h.reads.0 shows;
+  ends = failed_ends program parts h.bytes (streamed_of stream) left_old left_new files stored old new why few h.reads.0 shows;
   ended = λ ok. absurd (cc);
 }
 

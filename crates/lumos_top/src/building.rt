@@ -57,7 +57,7 @@ fn build_stop(fault: BuildFault) -> Stop
 /// parts, from 1 to 256. Where the files are told, it takes of Primary as many bytes as Secondary then has, which it copies.
 ///
 /// It stops by `Text` exactly where the input has that fault, by `Read` and `Depot` only where the faults of the input and
-/// the depot rose, and by `Memory` for no cause of its own.
+/// the depot rose, and by `Memory` for no cause of its own, before anything is stored in Meta.
 pub fn build_files<I: Source, D: Depot>(
     alloc: Global,
     path: &str,
@@ -75,6 +75,8 @@ pub fn build_files<I: Source, D: Depot>(
       left_new = I.left input.new;
       was = D.holds depot.old;
       is = D.holds depot.new;
+      stored_was = D.stored depot.old;
+      stored_is = D.stored depot.new;
       old_out = out;
       new_out = out;
     }) result }
@@ -131,6 +133,8 @@ pub fn build_grid<I: Source, D: Depot, O: Sink>(
       left_new = I.left input.new;
       was = D.holds depot.old;
       is = D.holds depot.new;
+      stored_was = D.stored depot.old;
+      stored_is = D.stored depot.new;
       old_out = O.written out.old;
       new_out = O.written out.new;
     }) result }

@@ -83,6 +83,8 @@ fn run_within<I: Source, D: Depot, O: Sink>(
       left_new = I.left input.new;
       was = D.holds depot.old;
       is = D.holds depot.new;
+      stored_was = D.stored depot.old;
+      stored_is = D.stored depot.new;
       old_out = O.written out.old;
       new_out = O.written out.new;
     }) result }
@@ -132,6 +134,8 @@ fn build_within<I: Source, D: Depot, O: Sink>(
       left_new = I.left input.new;
       was = D.holds depot.old;
       is = D.holds depot.new;
+      stored_was = D.stored depot.old;
+      stored_is = D.stored depot.new;
       old_out = O.written out.old;
       new_out = O.written out.new;
     }) result }
@@ -177,6 +181,8 @@ pub fn perform<I: Source, D: Depot, O: Sink>(
       left_new = I.left input.new;
       was = D.holds depot.old;
       is = D.holds depot.new;
+      stored_was = D.stored depot.old;
+      stored_is = D.stored depot.new;
       old_out = O.written out.old;
       new_out = O.written out.new;
     }) result }

@@ -132,12 +132,14 @@ pub fn replay<I: Source, O: Sink>(
     requires some { 1 ≤ parts }
     ensures usage { StopsAtWords (Ok (Request.Replay program parts)) result }
     ensures refused { 64 < parts → (result ≡ Err (Stop.TooMany (TooMany.Parts parts 64))) × (input.new ≡ input.old) × (out.new ≡ out.old) }
-    ensures done { (files : FileKind → Option (List ℕ))
+    ensures done { (files : FileKind → Option (List ℕ)) (stored : FileKind → ℕ)
         → EndsOn (answer_to (Ok (Request.Replay program parts))) (record {
           left_old = I.left input.old;
           left_new = I.left input.new;
           was = files;
           is = files;
+          stored_was = stored;
+          stored_is = stored;
           old_out = O.written out.old;
           new_out = O.written out.new;
         }) result }

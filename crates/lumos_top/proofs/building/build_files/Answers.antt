@@ -1,5 +1,5 @@
 use Rattle.std.proofs.Common.{◌∙◌}
-use Rattle.lumos_depot.specs.declared.depot.FileKind.TheVariants.{Primary, Secondary}
+use Rattle.lumos_depot.specs.declared.depot.FileKind.TheVariants.{Meta, Primary, Secondary}
 use Rattle.grid_build.proofs.CopyLemmas.{copies_long}
 use Rattle.lumos_top.proofs.GridEnds.{build_leaves, builds_within, copied_by, leaves_then, same_leaves}
 use Rattle.lumos_top.proofs.RunLemmas.{unbuilt}
@@ -9,7 +9,7 @@ pub returns-in-Failed-clause-built : goal.returns-in-Failed-clause-built
 returns-in-Failed-clause-built g c = λ out. unbuilt _ _ _ _ (λ bytes. tt)
 
 pub returns-in-NoMemory-clause-built : goal.returns-in-NoMemory-clause-built
-returns-in-NoMemory-clause-built g c = λ out. unbuilt _ _ _ _ (λ bytes. tt)
+returns-in-NoMemory-clause-built g c = λ out. unbuilt _ _ _ _ (λ bytes. c.attach.ensures.stored Meta)
 
 pub returns-in-Failed-clause-leaves : goal.returns-in-Failed-clause-leaves
 returns-in-Failed-clause-leaves g c = same_leaves g.D.Depot.holds g.D.Depot.taken g.D.Depot.stored _ _ c.attach.ensures.contents c.attach.ensures.taken c.attach.ensures.stored

@@ -14,7 +14,7 @@ returns-in-Run-clause-done g c =
 
 pub returns-in-Replay-clause-done : goal.returns-in-Replay-clause-done
 returns-in-Replay-clause-done g c =
-    asked_for (texts_of c.args.words.now) _ _ _ (sym c.read_words.ensures.value ∙ c.in-Ok.is ∙ ap Ok c.in-Replay.is) (c.replay.ensures.done (g.D.Depot.holds c.args.depot.now))
+    asked_for (texts_of c.args.words.now) _ _ _ (sym c.read_words.ensures.value ∙ c.in-Ok.is ∙ ap Ok c.in-Replay.is) (c.replay.ensures.done (g.D.Depot.holds c.args.depot.now) (g.D.Depot.stored c.args.depot.now))
 
 pub returns-in-Err-clause-done : goal.returns-in-Err-clause-done
 returns-in-Err-clause-done g c =

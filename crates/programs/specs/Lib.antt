@@ -1,5 +1,16 @@
 pub mod Components
 pub mod ComponentsLaws
+pub mod Flagged
+pub mod FlaggedLaws
+pub mod Numbers
+pub mod PageRank
+pub mod PageRankLaws
+pub mod Paths
+pub mod PathsLaws
+pub mod SeedLaws
+pub mod Seeds
 pub mod ShownLaws
+pub mod Spreading
+pub mod SpreadingLaws
 pub mod Tally
 pub mod TallyLaws

@@ -1,8 +1,10 @@
 // The least label, spread along the edges.
 ghost use Rattle.std.specs.Prelude.{◌≡◌, refl, codes};
 ghost use Rattle.std.proofs.Common.{rules};
-ghost use Rattle.programs.specs.Components.{IsLabel, label_bytes, label_from, components_program};
-ghost use Rattle.programs.specs.ComponentsLaws.{length-label_bytes, label_are_bytes, label_reads_back, label_in_range, components_lawful};
+ghost use Rattle.programs.specs.Flagged.{flagged_bytes, flagged_from};
+ghost use Rattle.programs.specs.FlaggedLaws.{flagged_are_bytes, flagged_reads_back, flagged_in_range};
+ghost use Rattle.programs.specs.Components.{label_of, IsLabel, components_program};
+ghost use Rattle.programs.specs.ComponentsLaws.{components_lawful};
 
 use byteorder::{ByteOrder, LittleEndian};
 use lumos_base::{Fixed, Line, OutInfo, Vertex, Weight};
@@ -24,21 +26,21 @@ impl Fixed for Label {
 
     ghost is_in_range = { IsLabel };
 
-    ghost bytes_of = { label_bytes };
+    ghost bytes_of = { λ x. flagged_bytes x.label x.fresh };
 
-    ghost value_of = { label_from };
+    ghost value_of = { flagged_from label_of };
 
     ghost width_low = { Prim.search rules };
 
     ghost width_high = { Prim.search rules };
 
-    ghost length_bytes = { length-label_bytes };
+    ghost length_bytes = { λ x. refl };
 
-    ghost are_bytes = { label_are_bytes };
+    ghost are_bytes = { λ x. flagged_are_bytes x.label x.fresh };
 
-    ghost reads_back = { label_reads_back };
+    ghost reads_back = { λ x h. flagged_reads_back label_of x.label x.fresh h };
 
-    ghost gives_in_range = { λ bytes x h len is. label_in_range bytes x h is };
+    ghost gives_in_range = { λ bytes x h len is. flagged_in_range label_of (λ y. y.label) (λ n b. refl) bytes x h is };
 
     const WIDTH: usize = 9;
 
@@ -110,11 +112,9 @@ impl VertexProgram for Components {
     }
 
     fn contribution(&self, value: &Label, _weight: Weight) -> Least {
-        if value.fresh {
-            Least(value.label)
-        } else {
-            Least(u64::MAX)
-        }
+        // without a branch: the mask is 0 where the label is fresh, and else the unit
+        let mask = u64::from(value.fresh).wrapping_sub(1);
+        Least(value.label.max(mask))
     }
 
     fn over(&self, _vertex: Vertex, _before: &Label, _sum: &Least) -> bool {

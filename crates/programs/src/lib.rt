@@ -2,7 +2,16 @@
 #![tactic(auto)]
 
 mod components;
+mod numbers;
+mod pagerank;
+mod paths;
+mod seeds;
+mod spreading;
 mod tally;
 
 pub use crate::components::{Components, Label};
+pub use crate::pagerank::{PageRank, Rank};
+pub use crate::paths::{Cost, Paths};
+pub use crate::seeds::{Seed, SeedFault, Seeds};
+pub use crate::spreading::{Scores, Spreading};
 pub use crate::tally::Tally;

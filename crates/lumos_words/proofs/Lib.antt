@@ -1,0 +1,9 @@
+pub mod TableLemmas
+pub mod Forms
+pub mod Rows
+pub mod Walking
+pub mod Whole
+pub mod ParseLemmas
+pub mod NumberLemmas
+pub mod SeedLemmas
+pub mod Saying

@@ -1,0 +1,119 @@
+// The request that the words make.
+ghost use Rattle.std.specs.Prelude.{◌≡◌, IfOk};
+ghost use Rattle.lumos_words.specs.Matches.{text_in, texts_of};
+ghost use Rattle.lumos_words.specs.Requests.{IsAnswer, asked, build_words, iter_words, program_words, request, request_for};
+
+use crate::faults::{UsageWhat, WordsFault, fault};
+use crate::parse::parse;
+use crate::request::{BuildWords, IterWords, PathText, ProgramWords, Request};
+use crate::settings::{Plan, ProgramName, Sizes, Task, Ways, directory, is_set, plan_of};
+use crate::table::{CommandWord, command_of};
+use clap::ArgMatches;
+use std::alloc::{AllocError, Global};
+
+// A program, with those of the options that it uses.
+fn program_words(program: ProgramName, ways: Ways) -> ProgramWords
+    ensures { result ≡ program_words program ways }
+{
+    let Ways {
+        unit,
+        share,
+        from,
+        seeds,
+        ..
+    } = ways;
+    match program {
+        ProgramName::PageRank => ProgramWords::PageRank { unit, share },
+        ProgramName::Spreading => ProgramWords::Spreading { unit, share, seeds },
+        ProgramName::Paths => ProgramWords::Paths { start: from },
+        ProgramName::Components => ProgramWords::Components,
+        ProgramName::Tally => ProgramWords::Tally,
+    }
+}
+
+fn build_words(alloc: Global, sizes: Sizes, dir: &str, both: bool) -> Result<BuildWords, AllocError>
+    ensures { IfOk result (λ b. b ≡ build_words sizes dir.now both) }
+{
+    let dir = PathText::from_text(alloc, dir)?;
+    Ok(BuildWords {
+        dir,
+        parts: sizes.parts,
+        budget: sizes.budget,
+        vertices: sizes.vertices,
+        max_edges: sizes.max_edges,
+        max_bytes: sizes.max_bytes,
+        both,
+    })
+}
+
+fn iter_words(sizes: Sizes, ways: &Ways) -> IterWords
+    ensures { result ≡ iter_words sizes ways.now }
+{
+    IterWords {
+        iterations: sizes.iterations,
+        budget: sizes.budget,
+        plain: ways.plain,
+        brief: ways.brief,
+    }
+}
+
+fn request_for(alloc: Global, plan: Plan, dir: &str, both: bool) -> Result<Request, AllocError>
+    ensures { IfOk result (λ r. r ≡ request_for plan dir.now both) }
+{
+    let Plan { task, sizes, ways } = plan;
+    match task {
+        Task::Run(program) => Ok(Request::Run {
+            iterate: iter_words(sizes, &ways),
+            program: program_words(program, ways),
+            grid: build_words(alloc, sizes, dir, both)?,
+        }),
+        Task::Build => Ok(Request::Build {
+            grid: build_words(alloc, sizes, dir, both)?,
+        }),
+        Task::Replay(program) => Ok(Request::Replay {
+            program: program_words(program, ways),
+            parts: sizes.parts.unwrap_or(2),
+            vertices: sizes.vertices,
+            both,
+        }),
+    }
+}
+
+// What the command is asked for.
+fn asked(alloc: Global, command: CommandWord, matches: &ArgMatches) -> Result<Request, WordsFault>
+    ensures { IsAnswer (asked command (text_in matches.now)) result }
+{
+    let plan = match plan_of(command, matches) {
+        Ok(plan) => plan,
+        Err(why) => return Err(WordsFault::Usage(why)),
+    };
+    let dir = directory(matches.get_str("dir"));
+    let both = is_set(matches.get_str("both"));
+    match request_for(alloc, plan, dir, both) {
+        Ok(request) => Ok(request),
+        Err(_) => Err(WordsFault::NoMemory),
+    }
+}
+
+/// What the words ask for, which don't hold the program's own name. The first names the command: `run`, `build` or `replay`.
+/// Behind it stand, in any order, the command's options, `--name value` or `--name=value`, its flags, and the name of a
+/// program, where the command has one; behind a word `--` every word is such a name. Which option has which values, and what
+/// stands where it isn't given, is [`Request`]'s. An option of the command that the program doesn't use is read all the same.
+///
+/// `Usage` tells the first fault, in the order of [`UsageWhat`]. `NoMemory` is want of memory, and says nothing of the words:
+/// nothing was kept, so they may be read again.
+pub fn read_words(alloc: Global, words: &[String]) -> Result<Request, WordsFault>
+    ensures answer { IsAnswer (request (texts_of words.now)) result }
+{
+    let Some(first) = words.first() else {
+        return Err(WordsFault::Usage(fault(UsageWhat::NoCommand)));
+    };
+    let Some(command) = command_of(first.as_str()) else {
+        return Err(WordsFault::Usage(fault(UsageWhat::UnknownCommand)));
+    };
+    match parse(alloc, command, words) {
+        Ok(Some(matches)) => asked(alloc, command, &matches),
+        Ok(None) => Err(WordsFault::Usage(fault(UsageWhat::WordsNotUnderstood))),
+        Err(_) => Err(WordsFault::NoMemory),
+    }
+}

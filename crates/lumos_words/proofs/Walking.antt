@@ -19,6 +19,20 @@ use Rattle.lumos_words.proofs.TableLemmas.{built_option, built_program, first_fo
 use Rattle.lumos_words.proofs.Forms.{LooksLong, LooksPlain, LooksShort, has_char, long_looks, long_not_plain, plain_looks, short_looks}
 use Rattle.lumos_words.proofs.Rows.{flag_fault, flag_takes, flag_used, item_row, item_rows, missing_fault, program_fault, program_used, repeat_kinds, valued_fault, valued_takes, valued_used}
 
+-- ---- truth values
+
+and_false : (b : Bool) → (b && false) ≡ false
+and_false true = refl
+and_false false = refl
+
+or_false : (b : Bool) → (b || false) ≡ b
+or_false true = refl
+or_false false = refl
+
+or_true : (b : Bool) → (b || true) ≡ true
+or_true true = refl
+or_true false = refl
+
 -- ---- kinds
 
 none_first : (a b : Kinds) → or_else a b ≡ [] → a ≡ []
@@ -32,11 +46,19 @@ none_next (k ∷ ks) b h = cc
 past : (a b : Kinds) → a ≡ [] → or_else a b ≡ b
 past a b h = ap (λ (l : Kinds). or_else l b) h
 
+pub nothing_after : (a : Kinds) → or_else a [] ≡ a
+nothing_after [] = refl
+nothing_after (k ∷ ks) = refl
+
 joined : (a b c : Kinds) → or_else (or_else a b) c ≡ or_else a (or_else b c)
 joined [] b c = refl
 joined (k ∷ ks) b c = refl
 
 -- ---- the walk
+
+-- the kinds of one word
+abbrev turn : List Rule → Walk → Text → Kinds
+turn c w word = turn_fault (shape_for c) [] w word
 
 -- the kinds of the walk and of what is pending at its end
 abbrev pub ends_in : List Rule → Walk → List Text → Kinds
@@ -45,12 +67,9 @@ ends_in c w words = or_else (walk_fault (shape_for c) [] w words) (settle_fault 
 abbrev pub end_rows : List Rule → Walk → List Text → List Row
 end_rows c w words = (settled c (fold (walked c []) w words).held).rows
 
-turn : List Rule → Walk → Text → Kinds
-turn c w word = turn_fault (shape_for c) [] w word
-
-step_ends : (c : List Rule) (w : Walk) (word : Text) (rest : List Text) → ends_in c w (word ∷ rest) ≡ or_else (turn_fault (shape_for c) [] w word) (ends_in c (walked c [] w word) rest)
+step_ends : (c : List Rule) (w : Walk) (word : Text) (rest : List Text) → ends_in c w (word ∷ rest) ≡ or_else (turn c w word) (ends_in c (walked c [] w word) rest)
 unfolding walk_fault
-step_ends c w word rest = joined (turn_fault (shape_for c) [] w word) (walk_fault (shape_for c) [] (walked c [] w word) rest) (settle_fault c false (fold (walked c []) w (word ∷ rest)).held)
+step_ends c w word rest = joined (turn c w word) (walk_fault (shape_for c) [] (walked c [] w word) rest) (settle_fault c false (fold (walked c []) w (word ∷ rest)).held)
 
 no_words : (c : List Rule) (w : Walk) → ends_in c w [] ≡ settle_fault c false w.held
 unfolding walk_fault
@@ -72,11 +91,7 @@ no_sub idle word = refl
 no_sub (option id) word = refl
 no_sub positional word = refl
 
-nothing_after : (a : Kinds) → or_else a [] ≡ a
-nothing_after [] = refl
-nothing_after (k ∷ ks) = refl
-
-end_turn : (c : List Rule) (h : Held) (wait : Waiting) (pos : ℕ) → turn_fault (shape_for c) [] (at h wait pos false) (45 ∷ 45 ∷ []) ≡ []
+end_turn : (c : List Rule) (h : Held) (wait : Waiting) (pos : ℕ) → turn c (at h wait pos false) (45 ∷ 45 ∷ []) ≡ []
 end_turn c h wait pos = rw no_sub refl
 
 end_walk : (c : List Rule) (h : Held) (wait : Waiting) (pos : ℕ) → walked c [] (at h wait pos false) (45 ∷ 45 ∷ []) ≡ at h wait pos true
@@ -85,16 +100,16 @@ end_walk c h wait pos = rw no_sub refl
 
 module _ (c : List Rule) (h : Held) (wait : Waiting) (pos : ℕ) (word part : Text) (l : LooksLong word part) where
   -- `--name` of no option
-  unknown_turn : arg_by_long c (name_part part) ≡ None → turn_fault (shape_for c) [] (at h wait pos false) word ≡ UnknownArgument ∷ []
+  unknown_turn : arg_by_long c (name_part part) ≡ None → turn c (at h wait pos false) word ≡ UnknownArgument ∷ []
   unknown_turn e = rw (no_sub, l.no_end, l.long, e) refl
 
   -- a flag with a value
   flag_value_turn : (k : Known) (value : Text) → k.is_flag ≡ true → arg_by_long c (name_part part) ≡ Some (built_option k) → value_part part ≡ Some value
-      → turn_fault (shape_for c) [] (at h wait pos false) word ≡ TooManyValues ∷ []
+      → turn c (at h wait pos false) word ≡ TooManyValues ∷ []
   flag_value_turn k value f e v = rw (no_sub, l.no_end, l.long, e, f, v) refl
 
   flag_turn : (k : Known) → k.is_flag ≡ true → arg_by_long c (name_part part) ≡ Some (built_option k) → value_part part ≡ None
-      → turn_fault (shape_for c) [] (at h wait pos false) word ≡ react_fault c false (built_option k) [] h
+      → turn c (at h wait pos false) word ≡ react_fault c false (built_option k) [] h
   flag_turn k f e v = rw (no_sub, l.no_end, l.long, e, f, v) (nothing_after _)
 
   flag_walk : (k : Known) → k.is_flag ≡ true → arg_by_long c (name_part part) ≡ Some (built_option k) → value_part part ≡ None
@@ -103,7 +118,7 @@ module _ (c : List Rule) (h : Held) (wait : Waiting) (pos : ℕ) (word part : Te
   flag_walk k f e v = rw (no_sub, l.no_end, l.long, e, f, v) refl
 
   valued_turn : (k : Known) (value : Text) → k.is_flag ≡ false → arg_by_long c (name_part part) ≡ Some (built_option k) → value_part part ≡ Some value
-      → turn_fault (shape_for c) [] (at h wait pos false) word ≡ react_fault c false (built_option k) (value ∷ []) h
+      → turn c (at h wait pos false) word ≡ react_fault c false (built_option k) (value ∷ []) h
   valued_turn k value f e v = rw (no_sub, l.no_end, l.long, e, f, v) (nothing_after _)
 
   valued_walk : (k : Known) (value : Text) → k.is_flag ≡ false → arg_by_long c (name_part part) ≡ Some (built_option k) → value_part part ≡ Some value
@@ -112,7 +127,7 @@ module _ (c : List Rule) (h : Held) (wait : Waiting) (pos : ℕ) (word part : Te
   valued_walk k value f e v = rw (no_sub, l.no_end, l.long, e, f, v) refl
 
   waiting_turn : (k : Known) → k.is_flag ≡ false → arg_by_long c (name_part part) ≡ Some (built_option k) → value_part part ≡ None
-      → turn_fault (shape_for c) [] (at h wait pos false) word ≡ settle_fault c false h
+      → turn c (at h wait pos false) word ≡ settle_fault c false h
   waiting_turn k f e v = rw (no_sub, l.no_end, l.long, e, f, v) (nothing_after _)
 
   waiting_walk : (k : Known) → k.is_flag ≡ false → arg_by_long c (name_part part) ≡ Some (built_option k) → value_part part ≡ None
@@ -121,14 +136,14 @@ module _ (c : List Rule) (h : Held) (wait : Waiting) (pos : ℕ) (word part : Te
   waiting_walk k f e v = rw (no_sub, l.no_end, l.long, e, f, v) refl
 
 module _ (c : List Rule) (h : Held) (pos : ℕ) (word : Text) (l : LooksPlain word) where
-  plain_turn : turn_fault (shape_for c) [] (at h idle pos false) word ≡ option_map_or (λ a. positional_fault c false a h) (arg_by_index c pos) (UnknownArgument ∷ [])
+  plain_turn : turn c (at h idle pos false) word ≡ option_map_or (λ a. positional_fault c false a h) (arg_by_index c pos) (UnknownArgument ∷ [])
   plain_turn = rw (l.no_end, l.no_long, l.no_short) refl
 
   plain_walk : walked c [] (at h idle pos false) word ≡ to_positional c (arg_by_index c pos) word (at h idle pos false) h
   unfolding walked
   plain_walk = rw (l.no_end, l.no_long, l.no_short) refl
 
-  value_turn : (id : Text) → turn_fault (shape_for c) [] (at h (option id) pos false) word ≡ []
+  value_turn : (id : Text) → turn c (at h (option id) pos false) word ≡ []
   value_turn id = rw (l.no_end, l.no_long, l.no_short) refl
 
   value_walk : (k : Known) → k.is_flag ≡ false → arg_by_id c k.name ≡ Some (built_option k) → h.pending ≡ Some (k.name, [])
@@ -137,7 +152,7 @@ module _ (c : List Rule) (h : Held) (pos : ℕ) (word : Text) (l : LooksPlain wo
   value_walk k f e p = rw (l.no_end, l.no_long, l.no_short, e, p, f, same_text) refl
 
 trailing_turn : (c : List Rule) (h : Held) (wait : Waiting) (pos : ℕ) (word : Text)
-    → turn_fault (shape_for c) [] (at h wait pos true) word ≡ option_map_or (λ a. positional_fault c false a h) (arg_by_index c pos) (UnknownArgument ∷ [])
+    → turn c (at h wait pos true) word ≡ option_map_or (λ a. positional_fault c false a h) (arg_by_index c pos) (UnknownArgument ∷ [])
 trailing_turn c h wait pos word = refl
 
 trailing_walk : (c : List Rule) (h : Held) (wait : Waiting) (pos : ℕ) (word : Text)
@@ -156,7 +171,7 @@ unfolding flags_fault
 unknown_short c n flags x h e none = rw (e, none) refl
 
 short_turn : (t : List Known) (p : Bool) (h : Held) (wait : Waiting) (pos : ℕ) (word : Text) → h.skip ≡ 0 → IsUtf8 word → bytes_eq word (45 ∷ 45 ∷ []) ≡ false → LooksShort word
-    → turn_fault (shape_for (rules_for t p)) [] (at h wait pos false) word ≡ [] → ⊥
+    → turn (rules_for t p) (at h wait pos false) word ≡ [] → ⊥
 short_turn t p h wait pos word skip utf no_end l nothing =
     let char = has_char l.first l.rest (subst IsUtf8 l.is utf) in
     let flags : flags_fault (rules_for t p) false (length (l.first ∷ l.rest)) (l.first ∷ l.rest) 0 (record h { skip = 0 }) ≡ UnknownArgument ∷ [] = unknown_short (rules_for t p) (length l.rest) (l.first ∷ l.rest) char.0 (record h { skip = 0 }) char.1 (no_shorts t p char.0) in
@@ -170,6 +185,27 @@ module _ (t : List Known) (p : Bool) where
   abbrev c : List Rule
   c = rules_for t p
 
+  -- clap doesn't understand the words; it stops at a word
+  abbrev pub Refused : Walk → List Text → Type 0
+  Refused w words = ends_in c w words ≡ [] → ⊥
+
+  abbrev Stopped : Walk → Text → Type 0
+  Stopped w word = turn c w word ≡ [] → ⊥
+
+  -- what is pending doesn't pass
+  abbrev Unsettled : Held → Type 0
+  Unsettled h = settle_fault c false h ≡ [] → ⊥
+
+  -- it does, and has the rows of these items, if each of them stands once
+  abbrev pub Kept : Bool → Walk → List Text → List Item → Type 0
+  Kept true w words items = (ends_in c w words ≡ []) × (end_rows c w words ≡ item_rows items)
+  Kept false w words items = Refused w words
+
+  -- clap makes of the words, behind the items so far, what our reading makes of them
+  abbrev pub Agree : Walk → List Text → List Item → Items → Type 0
+  Agree w words seen None = Refused w words
+  Agree w words seen (Some items) = Kept (is_once seen items) w words (seen ++ items)
+
   -- nothing waits and what is pending passes: the rows are those of the items so far
   pub record IsReady (seen : List Item) (h : Held) : Type 0 where
     pub settles : settle_fault c false h ≡ []
@@ -181,30 +217,26 @@ module _ (t : List Known) (p : Bool) where
     pub at_place : arg_by_index c pos ≡ cond free (Some built_program) None
     pub first : free ≡ true → pos ≡ 1
 
-  and_false : (b : Bool) → (b && false) ≡ false
-  and_false true = refl
-  and_false false = refl
-
   program_settles : (h : Held) → positional_fault c false built_program h ≡ settle_fault c false h
   program_settles h = rw and_false refl
 
-  -- what doesn't settle is never understood
-  stuck_trailing : (h : Held) (wait : Waiting) (pos : ℕ) (free : Bool) (words : List Text) → IsPlace pos free → (settle_fault c false h ≡ [] → ⊥) → ends_in c (at h wait pos true) words ≡ [] → ⊥
+  -- what doesn't settle is never understood: by no name
+  name_fails : (h : Held) (a : Option Rule) (free : Bool) → a ≡ cond free (Some built_program) None → Unsettled h → option_map_or (λ a. positional_fault c false a h) a (UnknownArgument ∷ []) ≡ [] → ⊥
+  name_fails h a true e bad none =
+      let some : positional_fault c false built_program h ≡ [] = rw e at none in
+      bad (sym (program_settles h) ∙ some)
+  name_fails h a false e bad none =
+      let some : UnknownArgument ∷ [] ≡ [] = rw e at none in
+      cc
+
+  stuck_trailing : (h : Held) (wait : Waiting) (pos : ℕ) (free : Bool) (words : List Text) → IsPlace pos free → Unsettled h → Refused (at h wait pos true) words
   stuck_trailing h wait pos free [] place bad nothing = bad (sym (no_words c (at h wait pos true)) ∙ nothing)
   stuck_trailing h wait pos free (word ∷ rest) place bad nothing =
-      let first : turn_fault (shape_for c) [] (at h wait pos true) word ≡ [] = none_first _ _ (sym (step_ends c (at h wait pos true) word rest) ∙ nothing) in
-      name_fails (arg_by_index c pos) free place.at_place (sym (trailing_turn c h wait pos word) ∙ first)
-    where
-      name_fails : (a : Option Rule) (free : Bool) → a ≡ cond free (Some built_program) None → option_map_or (λ a. positional_fault c false a h) a (UnknownArgument ∷ []) ≡ [] → ⊥
-      name_fails a true e none =
-          let some : positional_fault c false built_program h ≡ [] = rw e at none in
-          bad (sym (program_settles h) ∙ some)
-      name_fails a false e none =
-          let some : UnknownArgument ∷ [] ≡ [] = rw e at none in
-          cc
+      let first : turn c (at h wait pos true) word ≡ [] = none_first _ _ (sym (step_ends c (at h wait pos true) word rest) ∙ nothing) in
+      name_fails h (arg_by_index c pos) free place.at_place bad (sym (trailing_turn c h wait pos word) ∙ first)
 
   -- a known option settles what is pending first
-  long_stuck : (h : Held) (wait : Waiting) (pos : ℕ) (word part : Text) → LooksLong word part → (settle_fault c false h ≡ [] → ⊥) → turn_fault (shape_for c) [] (at h wait pos false) word ≡ [] → ⊥
+  long_stuck : (h : Held) (wait : Waiting) (pos : ℕ) (word part : Text) → LooksLong word part → Unsettled h → Stopped (at h wait pos false) word
   long_stuck h wait pos word part l bad nothing = go (known_by t (name_part part)) refl
     where
       known : (k : Known) (flag : Bool) (value : Option Text) → k.is_flag ≡ flag → arg_by_long c (name_part part) ≡ Some (built_option k) → value_part part ≡ value → ⊥
@@ -238,73 +270,66 @@ module _ (t : List Known) (p : Bool) where
       go false None true e-is o-is q-is = plain (plain_looks word q-is) q-is o-is e-is
       go false None false e-is o-is q-is = short (short_looks word q-is o-is e-is) q-is o-is e-is
 
-  stuck_idle : (h : Held) (pos : ℕ) (free : Bool) (words : List Text) → h.skip ≡ 0 → IsPlace pos free → AreTexts words → (settle_fault c false h ≡ [] → ⊥) → ends_in c (at h idle pos false) words ≡ [] → ⊥
+  stuck_idle : (h : Held) (pos : ℕ) (free : Bool) (words : List Text) → h.skip ≡ 0 → IsPlace pos free → AreTexts words → Unsettled h → Refused (at h idle pos false) words
   stuck_idle h pos free [] skip place texts bad nothing = bad (sym (no_words c (at h idle pos false)) ∙ nothing)
   stuck_idle h pos free (word ∷ rest) skip place texts bad nothing =
-      let whole : or_else (turn_fault (shape_for c) [] (at h idle pos false) word) (ends_in c (walked c [] (at h idle pos false) word) rest) ≡ [] = sym (step_ends c (at h idle pos false) word rest) ∙ nothing in
-      let first : turn_fault (shape_for c) [] (at h idle pos false) word ≡ [] = none_first _ _ whole in
+      let whole : or_else (turn c (at h idle pos false) word) (ends_in c (walked c [] (at h idle pos false) word) rest) ≡ [] = sym (step_ends c (at h idle pos false) word rest) ∙ nothing in
+      let first : turn c (at h idle pos false) word ≡ [] = none_first _ _ whole in
       let later : ends_in c (walked c [] (at h idle pos false) word) rest ≡ [] = none_next _ _ whole in
       elim (form_of word) [
         | ends is ↦
             let there : walked c [] (at h idle pos false) word ≡ at h idle pos true = ap (λ (x : Text). walked c [] (at h idle pos false) x) is ∙ end_walk c h idle pos in
             stuck_trailing h idle pos free rest place bad (rw there at later)
         | long part l o e ↦ long_stuck h idle pos word part l bad first
-        | plain l q o e ↦ name_fails (arg_by_index c pos) free place.at_place (sym (plain_turn c h pos word l) ∙ first)
+        | plain l q o e ↦ name_fails h (arg_by_index c pos) free place.at_place bad (sym (plain_turn c h pos word l) ∙ first)
         | short l q o e ↦ short_turn t p h idle pos word skip texts.0 e l first
       ]
-    where
-      name_fails : (a : Option Rule) (free : Bool) → a ≡ cond free (Some built_program) None → option_map_or (λ a. positional_fault c false a h) a (UnknownArgument ∷ []) ≡ [] → ⊥
-      name_fails a true e none =
-          let some : positional_fault c false built_program h ≡ [] = rw e at none in
-          bad (sym (program_settles h) ∙ some)
-      name_fails a false e none =
-          let some : UnknownArgument ∷ [] ≡ [] = rw e at none in
-          cc
 
-  -- ---- agreement
+  -- ---- agreement, item by item
 
-  abbrev Settled : Bool → Kinds → List Row → List Item → Type 0
-  Settled true kinds rows items = (kinds ≡ []) × (rows ≡ item_rows items)
-  Settled false kinds rows items = kinds ≡ [] → ⊥
+  next_item : (w : Walk) (words : List Text) (seen : List Item) (i : Item) (rest : Items) → stands (key i) seen ≡ false → Agree w words (seen ++ i ∷ []) rest → Agree w words seen (with_item i rest)
+  next_item w words seen i None fresh h = h
+  next_item w words seen i (Some items) fresh h = rw (fresh, ← append_assoc seen (i ∷ []) items) h
 
-  -- clap refuses where our reading does, and has the rows of the items where it doesn't
-  abbrev pub Agrees : Kinds → List Row → List Item → Items → Type 0
-  Agrees kinds rows seen None = kinds ≡ [] → ⊥
-  Agrees kinds rows seen (Some items) = Settled (is_once seen items) kinds rows (seen ++ items)
+  repeated_item : (w : Walk) (words : List Text) (seen : List Item) (i : Item) (rest : Items) → stands (key i) seen ≡ true → Refused w words → Agree w words seen (with_item i rest)
+  repeated_item w words seen i None again h = h
+  repeated_item w words seen i (Some items) again h = rw again h
 
-  next_item : (kinds : Kinds) (rows : List Row) (seen : List Item) (i : Item) (rest : Items) → stands (key i) seen ≡ false → Agrees kinds rows (seen ++ i ∷ []) rest → Agrees kinds rows seen (with_item i rest)
-  next_item kinds rows seen i None fresh h = h
-  next_item kinds rows seen i (Some items) fresh h = rw (fresh, ← append_assoc seen (i ∷ []) items) h
+  refused : (w : Walk) (words : List Text) (seen : List Item) (i : Items) → i ≡ None → Refused w words → Agree w words seen i
+  refused w words seen i e h = rw e h
 
-  repeated_item : (kinds : Kinds) (rows : List Row) (seen : List Item) (i : Item) (rest : Items) → stands (key i) seen ≡ true → (kinds ≡ [] → ⊥) → Agrees kinds rows seen (with_item i rest)
-  repeated_item kinds rows seen i None again h = h
-  repeated_item kinds rows seen i (Some items) again h = rw again h
-
-  refused : (kinds : Kinds) (rows : List Row) (seen : List Item) (i : Items) → i ≡ None → (kinds ≡ [] → ⊥) → Agrees kinds rows seen i
-  refused kinds rows seen i e h = rw e h
+  read_as : (w : Walk) (words : List Text) (seen : List Item) (i j : Items) → i ≡ j → Agree w words seen j → Agree w words seen i
+  read_as w words seen i j e h = subst (Agree w words seen) (sym e) h
 
   -- a turn that passes hands on to the rest
-  turned : (w after : Walk) (word : Text) (rest : List Text) (seen : List Item) (i : Items) → turn_fault (shape_for c) [] w word ≡ [] → walked c [] w word ≡ after
-      → Agrees (ends_in c after rest) (end_rows c after rest) seen i → Agrees (ends_in c w (word ∷ rest)) (end_rows c w (word ∷ rest)) seen i
-  turned w after word rest seen i passes is h =
-      let kinds : ends_in c w (word ∷ rest) ≡ ends_in c after rest = step_ends c w word rest ∙ (past _ _ passes ∙ ap (λ (x : Walk). ends_in c x rest) is) in
-      let rows : end_rows c w (word ∷ rest) ≡ end_rows c after rest = ap (λ (x : Walk). end_rows c x rest) is in
-      subst (λ (r : List Row). Agrees (ends_in c w (word ∷ rest)) r seen i) (sym rows) (subst (λ (k : Kinds). Agrees k (end_rows c after rest) seen i) (sym kinds) h)
+  turned : (w after : Walk) (word : Text) (rest : List Text) (seen : List Item) (i : Items) → turn c w word ≡ [] → walked c [] w word ≡ after
+      → Agree after rest seen i → Agree w (word ∷ rest) seen i
+  turned w after word rest seen i passes is h = go i h
+    where
+      kinds : ends_in c w (word ∷ rest) ≡ ends_in c after rest
+      kinds = step_ends c w word rest ∙ (past _ _ passes ∙ ap (λ (x : Walk). ends_in c x rest) is)
 
-  stopped : (w : Walk) (word : Text) (rest : List Text) → (turn_fault (shape_for c) [] w word ≡ [] → ⊥) → ends_in c w (word ∷ rest) ≡ [] → ⊥
+      rows : end_rows c w (word ∷ rest) ≡ end_rows c after rest
+      rows = ap (λ (x : Walk). end_rows c x rest) is
+
+      kept : (b : Bool) (items : List Item) → Kept b after rest items → Kept b w (word ∷ rest) items
+      kept true items h = (kinds ∙ h.0, rows ∙ h.1)
+      kept false items h = λ nothing. h (sym kinds ∙ nothing)
+
+      go : (i : Items) → Agree after rest seen i → Agree w (word ∷ rest) seen i
+      go None h = λ nothing. h (sym kinds ∙ nothing)
+      go (Some items) h = kept (is_once seen items) (seen ++ items) h
+
+  stopped : (w : Walk) (word : Text) (rest : List Text) → Stopped w word → Refused w (word ∷ rest)
   stopped w word rest bad nothing = bad (none_first _ _ (sym (step_ends c w word rest) ∙ nothing))
 
-  done : (w : Walk) (seen : List Item) → IsReady seen w.held → Agrees (ends_in c w []) (end_rows c w []) seen (Some [])
+  done : (w : Walk) (seen : List Item) → IsReady seen w.held → Agree w [] seen (Some [])
   done w seen ready = (no_words c w ∙ ready.settles, rw append-nil ready.rows)
 
   -- ---- names
 
   stands-after : (name : Text) (seen : List Item) (i : Item) → stands name (seen ++ i ∷ []) ≡ (stands name seen || bytes_eq (key i) name)
   stands-after name [] i = or_false (bytes_eq (key i) name)
-    where
-      or_false : (b : Bool) → (b || false) ≡ b
-      or_false true = refl
-      or_false false = refl
   stands-after name (j ∷ seen) i = go (bytes_eq (key j) name) (stands-after name seen i)
     where
       go : (b : Bool) → stands name (seen ++ i ∷ []) ≡ (stands name seen || bytes_eq (key i) name) → (b || stands name (seen ++ i ∷ [])) ≡ ((b || stands name seen) || bytes_eq (key i) name)
@@ -336,17 +361,9 @@ module _ (t : List Known) (p : Bool) where
   -- one option more leaves the program's place as it is
   still_free : (seen : List Item) (i : Item) → bytes_eq (key i) (codes "PROGRAM") ≡ false → is_free (seen ++ i ∷ []) ≡ is_free seen
   still_free seen i other = ap (λ (b : Bool). p && not b) (stands-after (codes "PROGRAM") seen i ∙ (ap (λ (b : Bool). stands (codes "PROGRAM") seen || b) other ∙ or_false (stands (codes "PROGRAM") seen)))
-    where
-      or_false : (b : Bool) → (b || false) ≡ b
-      or_false true = refl
-      or_false false = refl
 
   taken_now : (seen : List Item) (word : Text) → is_free (seen ++ named word ∷ []) ≡ false
   taken_now seen word = rw (stands-after (codes "PROGRAM") seen (named word), or_true (stands (codes "PROGRAM") seen)) (and_false p)
-    where
-      or_true : (b : Bool) → (b || true) ≡ true
-      or_true true = refl
-      or_true false = refl
 
   program_id : HasOwnName t → p ≡ true → arg_by_id c (codes "PROGRAM") ≡ Some built_program
   program_id own e = rw e (program_for t own)
@@ -365,33 +382,33 @@ module _ (t : List Known) (p : Bool) where
 
   -- a word that goes to the program
   name_step : HasOwnName t → (h : Held) (wait : Waiting) (pos : ℕ) (trailing : Bool) (word : Text) (rest : List Text) (seen : List Item) (items : Items) → IsReady seen h → IsPlace pos (is_free seen)
-      → turn_fault (shape_for c) [] (at h wait pos trailing) word ≡ option_map_or (λ a. positional_fault c false a h) (arg_by_index c pos) (UnknownArgument ∷ [])
+      → turn c (at h wait pos trailing) word ≡ option_map_or (λ a. positional_fault c false a h) (arg_by_index c pos) (UnknownArgument ∷ [])
       → walked c [] (at h wait pos trailing) word ≡ to_positional c (arg_by_index c pos) word (at h wait pos trailing) h
-      → (IsReady (seen ++ named word ∷ []) (held_program h word) → Agrees (ends_in c (at (held_program h word) idle 2 (trailing || false)) rest) (end_rows c (at (held_program h word) idle 2 (trailing || false)) rest) (seen ++ named word ∷ []) items)
-      → Agrees (ends_in c (at h wait pos trailing) (word ∷ rest)) (end_rows c (at h wait pos trailing) (word ∷ rest)) seen (name_read p word items)
+      → (IsReady (seen ++ named word ∷ []) (held_program h word) → Agree (at (held_program h word) idle 2 (trailing || false)) rest (seen ++ named word ∷ []) items)
+      → Agree (at h wait pos trailing) (word ∷ rest) seen (name_read p word items)
   name_step own h wait pos trailing word rest seen items ready place turn-is walk-is then = go p refl (stands (codes "PROGRAM") seen) refl
     where
-      taken : is_free seen ≡ false → turn_fault (shape_for c) [] (at h wait pos trailing) word ≡ [] → ⊥
+      taken : is_free seen ≡ false → Stopped (at h wait pos trailing) word
       taken e nothing =
           let all : UnknownArgument ∷ [] ≡ [] = rw (turn-is, place.at_place, e) at nothing in
           cc
 
-      go : (q : Bool) → p ≡ q → (s : Bool) → stands (codes "PROGRAM") seen ≡ s → Agrees (ends_in c (at h wait pos trailing) (word ∷ rest)) (end_rows c (at h wait pos trailing) (word ∷ rest)) seen (name_read p word items)
-      go false pe s se = refused _ _ seen (name_read p word items) (rw pe refl) (stopped (at h wait pos trailing) word rest (taken (rw pe refl)))
+      go : (q : Bool) → p ≡ q → (s : Bool) → stands (codes "PROGRAM") seen ≡ s → Agree (at h wait pos trailing) (word ∷ rest) seen (name_read p word items)
+      go false pe s se = refused (at h wait pos trailing) (word ∷ rest) seen (name_read p word items) (rw pe refl) (stopped (at h wait pos trailing) word rest (taken (rw pe refl)))
       go true pe true se =
-          subst (λ (i : Items). Agrees (ends_in c (at h wait pos trailing) (word ∷ rest)) (end_rows c (at h wait pos trailing) (word ∷ rest)) seen i) (ap (λ (q : Bool). name_read q word items) (sym pe))
-          (repeated_item _ _ seen (named word) items se (stopped (at h wait pos trailing) word rest (taken (rw (se, pe) refl))))
+          read_as (at h wait pos trailing) (word ∷ rest) seen _ (with_item (named word) items) (ap (λ (q : Bool). name_read q word items) pe)
+          (repeated_item (at h wait pos trailing) (word ∷ rest) seen (named word) items se (stopped (at h wait pos trailing) word rest (taken (rw (se, pe) refl))))
       go true pe false se =
           let free : is_free seen ≡ true = rw (se, pe) refl in
           let there : arg_by_index c pos ≡ Some built_program = rw (place.at_place, free) refl in
           let one : pos ≡ 1 = place.first free in
-          let passes : turn_fault (shape_for c) [] (at h wait pos trailing) word ≡ [] = turn-is ∙ rw there (program_settles h ∙ ready.settles) in
+          let passes : turn c (at h wait pos trailing) word ≡ [] = turn-is ∙ rw there (program_settles h ∙ ready.settles) in
           let goes : walked c [] (at h wait pos trailing) word ≡ at (held_program h word) idle 2 (trailing || false) = walk-is ∙ rw (there, one) (name_to_program word h wait trailing) in
-          subst (λ (i : Items). Agrees (ends_in c (at h wait pos trailing) (word ∷ rest)) (end_rows c (at h wait pos trailing) (word ∷ rest)) seen i) (ap (λ (q : Bool). name_read q word items) (sym pe))
-          (next_item _ _ seen (named word) items se (turned _ _ word rest (seen ++ named word ∷ []) items passes goes (then (ready_program seen h word (program_id own pe) se ready))))
+          read_as (at h wait pos trailing) (word ∷ rest) seen _ (with_item (named word) items) (ap (λ (q : Bool). name_read q word items) pe)
+          (next_item (at h wait pos trailing) (word ∷ rest) seen (named word) items se (turned _ _ word rest (seen ++ named word ∷ []) items passes goes (then (ready_program seen h word (program_id own pe) se ready))))
 
   names_agree : HasOwnName t → (h : Held) (wait : Waiting) (pos : ℕ) (words : List Text) (seen : List Item) → IsReady seen h → IsPlace pos (is_free seen)
-      → Agrees (ends_in c (at h wait pos true) words) (end_rows c (at h wait pos true) words) seen (names_read p words)
+      → Agree (at h wait pos true) words seen (names_read p words)
   names_agree own h wait pos [] seen ready place = done (at h wait pos true) seen ready
   names_agree own h wait pos (word ∷ rest) seen ready place =
       name_step own h wait pos true word rest seen (names_read p rest) ready place (trailing_turn c h wait pos word) (trailing_walk c h wait pos word)
@@ -421,27 +438,27 @@ module _ (t : List Known) (p : Bool) where
   -- what holds of the words that follow
   abbrev Onward : List Text → Type 0
   Onward rest = (wait : Option Text) (h : Held) (pos : ℕ) (seen : List Item) → Stands wait seen h → IsPlace pos (is_free seen)
-      → Agrees (ends_in c (at h (waiting_for wait) pos false) rest) (end_rows c (at h (waiting_for wait) pos false) rest) seen (reading t p wait rest)
+      → Agree (at h (waiting_for wait) pos false) rest seen (reading t p wait rest)
 
   -- a use that settles at once
   reacted_step : (h : Held) (pos : ℕ) (word : Text) (rest : List Text) (seen : List Item) (a : Rule) (values : List Text) (i : Item) → AreTexts rest → IsReady seen h → IsPlace pos (is_free seen) → Onward rest
       → bytes_eq (key i) (codes "PROGRAM") ≡ false
-      → turn_fault (shape_for c) [] (at h idle pos false) word ≡ react_fault c false a values h
+      → turn c (at h idle pos false) word ≡ react_fault c false a values h
       → walked c [] (at h idle pos false) word ≡ at (reacted c a values h) idle pos false
       → use_fault false a values (item_rows seen) ≡ repeat_kinds (stands (key i) seen)
       → (stands (key i) seen ≡ false → used a values (item_rows seen) ≡ item_rows (seen ++ i ∷ []))
-      → Agrees (ends_in c (at h idle pos false) (word ∷ rest)) (end_rows c (at h idle pos false) (word ∷ rest)) seen (with_item i (reading t p None rest))
+      → Agree (at h idle pos false) (word ∷ rest) seen (with_item i (reading t p None rest))
   reacted_step h pos word rest seen a values i texts ready place onward other turn-is walk-is fault-is used-is = go (stands (key i) seen) refl
     where
       kinds : react_fault c false a values h ≡ repeat_kinds (stands (key i) seen)
       kinds = past _ _ ready.settles ∙ (ap (use_fault false a values) ready.rows ∙ fault-is)
 
-      go : (b : Bool) → stands (key i) seen ≡ b → Agrees (ends_in c (at h idle pos false) (word ∷ rest)) (end_rows c (at h idle pos false) (word ∷ rest)) seen (with_item i (reading t p None rest))
-      go true e = repeated_item _ _ seen i (reading t p None rest) e (stopped (at h idle pos false) word rest (λ nothing. let all : ArgumentConflict ∷ [] ≡ [] = sym (turn-is ∙ (kinds ∙ ap repeat_kinds e)) ∙ nothing in cc))
+      go : (b : Bool) → stands (key i) seen ≡ b → Agree (at h idle pos false) (word ∷ rest) seen (with_item i (reading t p None rest))
+      go true e = repeated_item (at h idle pos false) (word ∷ rest) seen i (reading t p None rest) e (stopped (at h idle pos false) word rest (λ nothing. let all : ArgumentConflict ∷ [] ≡ [] = sym (turn-is ∙ (kinds ∙ ap repeat_kinds e)) ∙ nothing in cc))
       go false e =
-          let passes : turn_fault (shape_for c) [] (at h idle pos false) word ≡ [] = turn-is ∙ (kinds ∙ ap repeat_kinds e) in
+          let passes : turn c (at h idle pos false) word ≡ [] = turn-is ∙ (kinds ∙ ap repeat_kinds e) in
           let rows : used a values (settled c h).rows ≡ item_rows (seen ++ i ∷ []) = ap (used a values) ready.rows ∙ used-is e in
-          next_item _ _ seen i (reading t p None rest) e (turned _ _ word rest (seen ++ i ∷ []) (reading t p None rest) passes walk-is
+          next_item (at h idle pos false) (word ∷ rest) seen i (reading t p None rest) e (turned _ _ word rest (seen ++ i ∷ []) (reading t p None rest) passes walk-is
           (onward None (reacted c a values h) pos (seen ++ i ∷ []) (record { settles = refl; rows = rows; skip = ready.skip }) (rw (still_free seen i other) place)))
 
   read_long : (word part : Text) (rest : List Text) → bytes_eq word (codes "--") ≡ false → option_part word ≡ Some part
@@ -462,12 +479,12 @@ module _ (t : List Known) (p : Bool) where
   read_end word rest is = rw is refl
 
   long_step : HasOwnName t → (h : Held) (pos : ℕ) (word part : Text) (rest : List Text) (seen : List Item) → AreTexts rest → IsReady seen h → IsPlace pos (is_free seen) → Onward rest → LooksLong word part
-      → Agrees (ends_in c (at h idle pos false) (word ∷ rest)) (end_rows c (at h idle pos false) (word ∷ rest)) seen (option_read (known_by t (name_part part)) (value_part part) (λ waiting. reading t p waiting rest))
+      → Agree (at h idle pos false) (word ∷ rest) seen (option_read (known_by t (name_part part)) (value_part part) (λ waiting. reading t p waiting rest))
   long_step own h pos word part rest seen texts ready place onward l = go (known_by t (name_part part)) refl
     where
       known : (k : Known) (flag : Bool) (value : Option Text) → k.is_flag ≡ flag → known_by t (name_part part) ≡ Some k → arg_by_long c (name_part part) ≡ Some (built_option k) → value_part part ≡ value
-          → Agrees (ends_in c (at h idle pos false) (word ∷ rest)) (end_rows c (at h idle pos false) (word ∷ rest)) seen (option_read (Some k) value (λ waiting. reading t p waiting rest))
-      known k true (Some v) f found e v-is = refused _ _ seen _ (rw f refl) (stopped (at h idle pos false) word rest (λ nothing.
+          → Agree (at h idle pos false) (word ∷ rest) seen (option_read (Some k) value (λ waiting. reading t p waiting rest))
+      known k true (Some v) f found e v-is = refused (at h idle pos false) (word ∷ rest) seen _ (rw f refl) (stopped (at h idle pos false) word rest (λ nothing.
           let all : TooManyValues ∷ [] ≡ [] = sym (flag_value_turn c h idle pos word part l k v f e v-is) ∙ nothing in cc))
       known k true None f found e v-is = rw f (reacted_step h pos word rest seen (built_option k) [] (flagged k.name) texts ready place onward (option_key own (name_part part) k found)
           (flag_turn c h idle pos word part l k f e v-is) (flag_walk c h idle pos word part l k f e v-is) (flag_fault k seen f) (flag_used k seen f))
@@ -489,28 +506,23 @@ module _ (t : List Known) (p : Bool) where
           }) place))
 
       go : (o : Option Known) → known_by t (name_part part) ≡ o
-          → Agrees (ends_in c (at h idle pos false) (word ∷ rest)) (end_rows c (at h idle pos false) (word ∷ rest)) seen (option_read o (value_part part) (λ waiting. reading t p waiting rest))
+          → Agree (at h idle pos false) (word ∷ rest) seen (option_read o (value_part part) (λ waiting. reading t p waiting rest))
       go None e = stopped (at h idle pos false) word rest (λ nothing.
           let none : arg_by_long c (name_part part) ≡ None = long_for t p (name_part part) ∙ ap (option_map built_option) e in
           let all : UnknownArgument ∷ [] ≡ [] = sym (unknown_turn c h idle pos word part l none) ∙ nothing in cc)
       go (Some k) e = known k k.is_flag (value_part part) refl e (long_for t p (name_part part) ∙ ap (option_map built_option) e) refl
 
   idle_step : HasOwnName t → (h : Held) (pos : ℕ) (word : Text) (rest : List Text) (seen : List Item) → AreTexts (word ∷ rest) → IsReady seen h → IsPlace pos (is_free seen) → Onward rest
-      → Agrees (ends_in c (at h idle pos false) (word ∷ rest)) (end_rows c (at h idle pos false) (word ∷ rest)) seen (reading t p None (word ∷ rest))
+      → Agree (at h idle pos false) (word ∷ rest) seen (reading t p None (word ∷ rest))
   idle_step own h pos word rest seen texts ready place onward = elim (form_of word) [
-    | ends is ↦ read_as (read_end word rest is) (turned _ _ word rest seen (names_read p rest) (ap (λ (x : Text). turn_fault (shape_for c) [] (at h idle pos false) x) is ∙ end_turn c h idle pos)
+    | ends is ↦ read_as (at h idle pos false) (word ∷ rest) seen _ (names_read p rest) (read_end word rest is) (turned _ _ word rest seen (names_read p rest) (ap (λ (x : Text). turn c (at h idle pos false) x) is ∙ end_turn c h idle pos)
         (ap (λ (x : Text). walked c [] (at h idle pos false) x) is ∙ end_walk c h idle pos) (names_agree own h idle pos rest seen ready place))
-    | long part l o e ↦ read_as (read_long word part rest e o) (long_step own h pos word part rest seen texts.1 ready place onward l)
-    | plain l q o e ↦ read_as (read_plain word rest e o q) (name_step own h idle pos false word rest seen (reading t p None rest) ready place (plain_turn c h pos word l) (plain_walk c h pos word l)
+    | long part l o e ↦ read_as (at h idle pos false) (word ∷ rest) seen _ (option_read (known_by t (name_part part)) (value_part part) (λ waiting. reading t p waiting rest)) (read_long word part rest e o) (long_step own h pos word part rest seen texts.1 ready place onward l)
+    | plain l q o e ↦ read_as (at h idle pos false) (word ∷ rest) seen _ (name_read p word (reading t p None rest)) (read_plain word rest e o q) (name_step own h idle pos false word rest seen (reading t p None rest) ready place (plain_turn c h pos word l) (plain_walk c h pos word l)
         (λ now. onward None (held_program h word) 2 (seen ++ named word ∷ []) now (place_two _ (taken_now seen word))))
-    | short l q o e ↦ refused _ _ seen (reading t p None (word ∷ rest)) (read_short word rest e o q) (stopped (at h idle pos false) word rest (short_turn t p h idle pos word ready.skip texts.0 e l))
+    | short l q o e ↦ refused (at h idle pos false) (word ∷ rest) seen (reading t p None (word ∷ rest)) (read_short word rest e o q) (stopped (at h idle pos false) word rest (short_turn t p h idle pos word ready.skip texts.0 e l))
   ]
-    where
-      read_as : {j : Items} → reading t p None (word ∷ rest) ≡ j → Agrees (ends_in c (at h idle pos false) (word ∷ rest)) (end_rows c (at h idle pos false) (word ∷ rest)) seen j
-          → Agrees (ends_in c (at h idle pos false) (word ∷ rest)) (end_rows c (at h idle pos false) (word ∷ rest)) seen (reading t p None (word ∷ rest))
-      read_as is a = subst (λ (i : Items). Agrees (ends_in c (at h idle pos false) (word ∷ rest)) (end_rows c (at h idle pos false) (word ∷ rest)) seen i) (sym is) a
-
-  no_value : (name : Text) (h : Held) (seen : List Item) → IsWaiting name seen h → settle_fault c false h ≡ [] → ⊥
+  no_value : (name : Text) (h : Held) (seen : List Item) → IsWaiting name seen h → Unsettled h
   no_value name h seen wait nothing =
       missing_fault wait.known h.rows wait.takes-value (rw (wait.pending, wait.found) at nothing)
 
@@ -521,7 +533,7 @@ module _ (t : List Known) (p : Bool) where
 
   -- the value of the option that waits
   value_step : (name : Text) (h : Held) (pos : ℕ) (word : Text) (rest : List Text) (seen : List Item) → AreTexts rest → IsWaiting name seen h → IsPlace pos (is_free seen) → Onward rest → LooksPlain word
-      → Agrees (ends_in c (at h (option name) pos false) (word ∷ rest)) (end_rows c (at h (option name) pos false) (word ∷ rest)) seen (with_item (valued name word) (reading t p None rest))
+      → Agree (at h (option name) pos false) (word ∷ rest) seen (with_item (valued name word) (reading t p None rest))
   value_step name h pos word rest seen texts wait place onward l = go (stands name seen) refl
     where
       k : Known
@@ -536,36 +548,36 @@ module _ (t : List Known) (p : Bool) where
       settle-is : settle_fault c false after ≡ repeat_kinds (stands name seen)
       settle-is = rw (wait.found, wait.rows) (valued_fault k word seen wait.takes-value ∙ ap (λ (n : Text). repeat_kinds (stands n seen)) wait.named-so)
 
-      go : (b : Bool) → stands name seen ≡ b → Agrees (ends_in c (at h (option name) pos false) (word ∷ rest)) (end_rows c (at h (option name) pos false) (word ∷ rest)) seen (with_item (valued name word) (reading t p None rest))
-      go true e = repeated_item _ _ seen (valued name word) (reading t p None rest) e (λ nothing.
+      go : (b : Bool) → stands name seen ≡ b → Agree (at h (option name) pos false) (word ∷ rest) seen (with_item (valued name word) (reading t p None rest))
+      go true e = repeated_item (at h (option name) pos false) (word ∷ rest) seen (valued name word) (reading t p None rest) e (λ nothing.
           let later : ends_in c (walked c [] (at h (option name) pos false) word) rest ≡ [] = none_next _ _ (sym (step_ends c (at h (option name) pos false) word rest) ∙ nothing) in
           stuck_idle after pos (is_free seen) rest wait.skip place texts (λ none. let all : ArgumentConflict ∷ [] ≡ [] = sym (settle-is ∙ ap repeat_kinds e) ∙ none in cc) (rw walk-is at later))
       go false e =
           let fresh : stands k.name seen ≡ false = ap (λ (n : Text). stands n seen) wait.named-so ∙ e in
           let rows : (settled c after).rows ≡ item_rows (seen ++ valued name word ∷ []) = rw (wait.found, wait.rows) (valued_used k word seen wait.takes-value fresh ∙ ap (λ (n : Text). item_rows (seen ++ valued n word ∷ [])) wait.named-so) in
           let other : bytes_eq name (codes "PROGRAM") ≡ false = rw wait.named-so at wait.other in
-          next_item _ _ seen (valued name word) (reading t p None rest) e (turned _ _ word rest (seen ++ valued name word ∷ []) (reading t p None rest) (value_turn c h pos word l name) walk-is
+          next_item (at h (option name) pos false) (word ∷ rest) seen (valued name word) (reading t p None rest) e (turned _ _ word rest (seen ++ valued name word ∷ []) (reading t p None rest) (value_turn c h pos word l name) walk-is
           (onward None after pos (seen ++ valued name word ∷ []) (record { settles = settle-is ∙ ap repeat_kinds e; rows = rows; skip = wait.skip }) (rw (still_free seen (valued name word) other) place)))
 
   waiting_step : (name : Text) (h : Held) (pos : ℕ) (word : Text) (rest : List Text) (seen : List Item) → AreTexts (word ∷ rest) → IsWaiting name seen h → IsPlace pos (is_free seen) → Onward rest
-      → Agrees (ends_in c (at h (option name) pos false) (word ∷ rest)) (end_rows c (at h (option name) pos false) (word ∷ rest)) seen (reading t p (Some name) (word ∷ rest))
+      → Agree (at h (option name) pos false) (word ∷ rest) seen (reading t p (Some name) (word ∷ rest))
   waiting_step name h pos word rest seen texts wait place onward = elim (form_of word) [
     | ends is ↦ no (rw is refl) (λ nothing.
         let later : ends_in c (walked c [] (at h (option name) pos false) word) rest ≡ [] = none_next _ _ (sym (step_ends c (at h (option name) pos false) word rest) ∙ nothing) in
         let there : walked c [] (at h (option name) pos false) word ≡ at h (option name) pos true = ap (λ (x : Text). walked c [] (at h (option name) pos false) x) is ∙ end_walk c h (option name) pos in
         stuck_trailing h (option name) pos (is_free seen) rest place (no_value name h seen wait) (rw there at later))
     | long part l o e ↦ no (long_not_plain word part o) (stopped (at h (option name) pos false) word rest (long_stuck h (option name) pos word part l (no_value name h seen wait)))
-    | plain l q o e ↦ subst (λ (i : Items). Agrees (ends_in c (at h (option name) pos false) (word ∷ rest)) (end_rows c (at h (option name) pos false) (word ∷ rest)) seen i) (sym (read_value name word rest true q))
+    | plain l q o e ↦ read_as (at h (option name) pos false) (word ∷ rest) seen _ (with_item (valued name word) (reading t p None rest)) (read_value name word rest true q)
         (value_step name h pos word rest seen texts.1 wait place onward l)
     | short l q o e ↦ no q (stopped (at h (option name) pos false) word rest (short_turn t p h (option name) pos word wait.skip texts.0 e l))
   ]
     where
-      no : is_plain word ≡ false → (ends_in c (at h (option name) pos false) (word ∷ rest) ≡ [] → ⊥)
-          → Agrees (ends_in c (at h (option name) pos false) (word ∷ rest)) (end_rows c (at h (option name) pos false) (word ∷ rest)) seen (reading t p (Some name) (word ∷ rest))
-      no q bad = refused _ _ seen _ (read_value name word rest false q) bad
+      no : is_plain word ≡ false → (Refused (at h (option name) pos false) (word ∷ rest))
+          → Agree (at h (option name) pos false) (word ∷ rest) seen (reading t p (Some name) (word ∷ rest))
+      no q bad = refused (at h (option name) pos false) (word ∷ rest) seen _ (read_value name word rest false q) bad
 
   pub agree : HasOwnName t → (wait : Option Text) (h : Held) (pos : ℕ) (words : List Text) (seen : List Item) → AreTexts words → Stands wait seen h → IsPlace pos (is_free seen)
-      → Agrees (ends_in c (at h (waiting_for wait) pos false) words) (end_rows c (at h (waiting_for wait) pos false) words) seen (reading t p wait words)
+      → Agree (at h (waiting_for wait) pos false) words seen (reading t p wait words)
   unfolding reading
   agree own None h pos [] seen texts ready place = done (at h idle pos false) seen ready
   agree own (Some name) h pos [] seen texts ready place = λ nothing. no_value name h seen ready (sym (no_words c (at h (option name) pos false)) ∙ nothing)

@@ -18,7 +18,7 @@ use Rattle.lumos_words.specs.Words.{AreTexts, HasOwnName, Item, Items, is_flag, 
 use Rattle.lumos_words.specs.Matches.{app_for}
 use Rattle.lumos_words.proofs.TableLemmas.{built_option, built_program, built_programs, built_table, first_for, rules_for, shape_for}
 use Rattle.lumos_words.proofs.Rows.{at_end, item_row, item_rows, item_values, row_stands}
-use Rattle.lumos_words.proofs.Walking.{Agrees, IsPlace, IsReady, agree, end_rows, ends_in}
+use Rattle.lumos_words.proofs.Walking.{Agree, IsPlace, IsReady, agree, end_rows, ends_in, nothing_after}
 
 -- ---- after the walk
 
@@ -59,10 +59,6 @@ nothing_entered s (Some x) = refl
 no_entered_fault : (s : Shape) (stop : Option (Text × List Text)) → entered_fault (record { top = s; subs = [] }) stop ≡ []
 no_entered_fault s None = refl
 no_entered_fault s (Some x) = refl
-
-nothing_after : (a : Kinds) → or_else a [] ≡ a
-nothing_after [] = refl
-nothing_after (k ∷ ks) = refl
 
 no_check : (t : List Known) (p : Bool) (rows : List Row) → check_fault (shape_for (rules_for t p)) rows false ≡ []
 no_check t p rows = rw (none_required t p (λ a. not (is_given a.id rows))) refl
@@ -227,7 +223,7 @@ taken t p name words own texts = go (reading t p None words) (agree t p own None
     and_true true = refl
     and_true false = refl
 
-    settled_as : (items : List Item) (b : Bool) → is_once [] items ≡ b → Agrees t p (ends_in (rules_for t p) (walk_from nothing_held) words) (end_rows (rules_for t p) (walk_from nothing_held) words) [] (Some items) → Taken t p name words (once items)
+    settled_as : (items : List Item) (b : Bool) → is_once [] items ≡ b → Agree t p (walk_from nothing_held) words [] (Some items) → Taken t p name words (once items)
     settled_as items true e h =
         let both = rw e at h in
         rw e (whole_fault t p name words ∙ both.0, whole_rows t p name words ∙ ap (λ (rows : List Row). fold with_default rows (rules_for t p)) both.1)
@@ -235,6 +231,6 @@ taken t p name words own texts = go (reading t p None words) (agree t p own None
         let never = rw e at h in
         rw e (λ nothing. never (sym (whole_fault t p name words) ∙ nothing))
 
-    go : (i : Items) → Agrees t p (ends_in (rules_for t p) (walk_from nothing_held) words) (end_rows (rules_for t p) (walk_from nothing_held) words) [] i → Taken t p name words (option_and_then once i)
+    go : (i : Items) → Agree t p (walk_from nothing_held) words [] i → Taken t p name words (option_and_then once i)
     go None h = λ nothing. h (sym (whole_fault t p name words) ∙ nothing)
     go (Some items) h = settled_as items (is_once [] items) refl h

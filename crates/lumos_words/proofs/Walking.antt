@@ -14,7 +14,7 @@ use Rattle.clap.specs.Faults.{flags_fault, long_fault, positional_fault, react_f
 use Rattle.clap.specs.declared.error.kind.ErrorKind.{ErrorKind}
 use Rattle.clap.specs.declared.error.kind.ErrorKind.TheVariants.{ArgumentConflict, TooManyValues, UnknownArgument}
 use Rattle.lumos_words.specs.Options.{Known, Text}
-use Rattle.lumos_words.specs.Words.{Item, Items, flagged, is_once, is_plain, key, known_by, name_part, name_read, named, names_read, option_part, option_read, reading, stands, value_part, valued, with_item, AreTexts, HasOwnName}
+use Rattle.lumos_words.specs.Words.{Item, Items, flagged, is_once, is_plain, key, known_by, continued, name_part, name_says, named, names_read, option_part, option_says, reading, stands, value_part, valued, with_item, AreTexts, HasOwnName}
 use Rattle.lumos_words.proofs.TableLemmas.{built_option, built_program, first_for, found_name, id_for, long_for, program_for, rules_for, second_for, shape_for}
 use Rattle.lumos_words.proofs.Forms.{LooksLong, LooksPlain, LooksShort, has_char, long_looks, long_not_plain, plain_looks, short_looks}
 use Rattle.lumos_words.proofs.Rows.{flag_fault, flag_takes, flag_used, item_row, item_rows, missing_fault, program_fault, program_used, repeat_kinds, valued_fault, valued_takes, valued_used}
@@ -381,37 +381,37 @@ module _ (t : List Known) (p : Bool) where
           cc
 
   -- a word that goes to the program
-  name_step : HasOwnName t → (h : Held) (wait : Waiting) (pos : ℕ) (trailing : Bool) (word : Text) (rest : List Text) (seen : List Item) (items : Items) → IsReady seen h → IsPlace pos (is_free seen)
+  name_step : HasOwnName t → (h : Held) (wait : Waiting) (pos : ℕ) (trailing : Bool) (word : Text) (rest : List Text) (seen : List Item) (next : Option Text → Items) → IsReady seen h → IsPlace pos (is_free seen)
       → turn c (at h wait pos trailing) word ≡ option_map_or (λ a. positional_fault c false a h) (arg_by_index c pos) (UnknownArgument ∷ [])
       → walked c [] (at h wait pos trailing) word ≡ to_positional c (arg_by_index c pos) word (at h wait pos trailing) h
-      → (IsReady (seen ++ named word ∷ []) (held_program h word) → Agree (at (held_program h word) idle 2 (trailing || false)) rest (seen ++ named word ∷ []) items)
-      → Agree (at h wait pos trailing) (word ∷ rest) seen (name_read p word items)
-  name_step own h wait pos trailing word rest seen items ready place turn-is walk-is then = go p refl (stands (codes "PROGRAM") seen) refl
+      → (IsReady (seen ++ named word ∷ []) (held_program h word) → Agree (at (held_program h word) idle 2 (trailing || false)) rest (seen ++ named word ∷ []) (next None))
+      → Agree (at h wait pos trailing) (word ∷ rest) seen (continued (name_says p word) next)
+  name_step own h wait pos trailing word rest seen next ready place turn-is walk-is then = go p refl (stands (codes "PROGRAM") seen) refl
     where
       taken : is_free seen ≡ false → Stopped (at h wait pos trailing) word
       taken e nothing =
           let all : UnknownArgument ∷ [] ≡ [] = rw (turn-is, place.at_place, e) at nothing in
           cc
 
-      go : (q : Bool) → p ≡ q → (s : Bool) → stands (codes "PROGRAM") seen ≡ s → Agree (at h wait pos trailing) (word ∷ rest) seen (name_read p word items)
-      go false pe s se = refused (at h wait pos trailing) (word ∷ rest) seen (name_read p word items) (rw pe refl) (stopped (at h wait pos trailing) word rest (taken (rw pe refl)))
+      go : (q : Bool) → p ≡ q → (s : Bool) → stands (codes "PROGRAM") seen ≡ s → Agree (at h wait pos trailing) (word ∷ rest) seen (continued (name_says p word) next)
+      go false pe s se = refused (at h wait pos trailing) (word ∷ rest) seen (continued (name_says p word) next) (rw pe refl) (stopped (at h wait pos trailing) word rest (taken (rw pe refl)))
       go true pe true se =
-          read_as (at h wait pos trailing) (word ∷ rest) seen _ (with_item (named word) items) (ap (λ (q : Bool). name_read q word items) pe)
-          (repeated_item (at h wait pos trailing) (word ∷ rest) seen (named word) items se (stopped (at h wait pos trailing) word rest (taken (rw (se, pe) refl))))
+          read_as (at h wait pos trailing) (word ∷ rest) seen _ (with_item (named word) (next None)) (ap (λ (q : Bool). continued (name_says q word) next) pe)
+          (repeated_item (at h wait pos trailing) (word ∷ rest) seen (named word) (next None) se (stopped (at h wait pos trailing) word rest (taken (rw (se, pe) refl))))
       go true pe false se =
           let free : is_free seen ≡ true = rw (se, pe) refl in
           let there : arg_by_index c pos ≡ Some built_program = rw (place.at_place, free) refl in
           let one : pos ≡ 1 = place.first free in
           let passes : turn c (at h wait pos trailing) word ≡ [] = turn-is ∙ rw there (program_settles h ∙ ready.settles) in
           let goes : walked c [] (at h wait pos trailing) word ≡ at (held_program h word) idle 2 (trailing || false) = walk-is ∙ rw (there, one) (name_to_program word h wait trailing) in
-          read_as (at h wait pos trailing) (word ∷ rest) seen _ (with_item (named word) items) (ap (λ (q : Bool). name_read q word items) pe)
-          (next_item (at h wait pos trailing) (word ∷ rest) seen (named word) items se (turned _ _ word rest (seen ++ named word ∷ []) items passes goes (then (ready_program seen h word (program_id own pe) se ready))))
+          read_as (at h wait pos trailing) (word ∷ rest) seen _ (with_item (named word) (next None)) (ap (λ (q : Bool). continued (name_says q word) next) pe)
+          (next_item (at h wait pos trailing) (word ∷ rest) seen (named word) (next None) se (turned _ _ word rest (seen ++ named word ∷ []) (next None) passes goes (then (ready_program seen h word (program_id own pe) se ready))))
 
   names_agree : HasOwnName t → (h : Held) (wait : Waiting) (pos : ℕ) (words : List Text) (seen : List Item) → IsReady seen h → IsPlace pos (is_free seen)
       → Agree (at h wait pos true) words seen (names_read p words)
   names_agree own h wait pos [] seen ready place = done (at h wait pos true) seen ready
   names_agree own h wait pos (word ∷ rest) seen ready place =
-      name_step own h wait pos true word rest seen (names_read p rest) ready place (trailing_turn c h wait pos word) (trailing_walk c h wait pos word)
+      name_step own h wait pos true word rest seen (λ waiting. names_read p rest) ready place (trailing_turn c h wait pos word) (trailing_walk c h wait pos word)
       (λ now. names_agree own (held_program h word) idle 2 rest (seen ++ named word ∷ []) now (place_two _ (taken_now seen word)))
 
   -- ---- the whole walk
@@ -462,11 +462,11 @@ module _ (t : List Known) (p : Bool) where
           (onward None (reacted c a values h) pos (seen ++ i ∷ []) (record { settles = refl; rows = rows; skip = ready.skip }) (rw (still_free seen i other) place)))
 
   read_long : (word part : Text) (rest : List Text) → bytes_eq word (codes "--") ≡ false → option_part word ≡ Some part
-      → reading t p None (word ∷ rest) ≡ option_read (known_by t (name_part part)) (value_part part) (λ waiting. reading t p waiting rest)
+      → reading t p None (word ∷ rest) ≡ continued (option_says (known_by t (name_part part)) (value_part part)) (λ waiting. reading t p waiting rest)
   unfolding reading
   read_long word part rest e o = rw (e, o) refl
 
-  read_plain : (word : Text) (rest : List Text) → bytes_eq word (codes "--") ≡ false → option_part word ≡ None → is_plain word ≡ true → reading t p None (word ∷ rest) ≡ name_read p word (reading t p None rest)
+  read_plain : (word : Text) (rest : List Text) → bytes_eq word (codes "--") ≡ false → option_part word ≡ None → is_plain word ≡ true → reading t p None (word ∷ rest) ≡ continued (name_says p word) (λ waiting. reading t p waiting rest)
   unfolding reading
   read_plain word rest e o q = rw (e, o, q) refl
 
@@ -479,11 +479,11 @@ module _ (t : List Known) (p : Bool) where
   read_end word rest is = rw is refl
 
   long_step : HasOwnName t → (h : Held) (pos : ℕ) (word part : Text) (rest : List Text) (seen : List Item) → AreTexts rest → IsReady seen h → IsPlace pos (is_free seen) → Onward rest → LooksLong word part
-      → Agree (at h idle pos false) (word ∷ rest) seen (option_read (known_by t (name_part part)) (value_part part) (λ waiting. reading t p waiting rest))
+      → Agree (at h idle pos false) (word ∷ rest) seen (continued (option_says (known_by t (name_part part)) (value_part part)) (λ waiting. reading t p waiting rest))
   long_step own h pos word part rest seen texts ready place onward l = go (known_by t (name_part part)) refl
     where
       known : (k : Known) (flag : Bool) (value : Option Text) → k.is_flag ≡ flag → known_by t (name_part part) ≡ Some k → arg_by_long c (name_part part) ≡ Some (built_option k) → value_part part ≡ value
-          → Agree (at h idle pos false) (word ∷ rest) seen (option_read (Some k) value (λ waiting. reading t p waiting rest))
+          → Agree (at h idle pos false) (word ∷ rest) seen (continued (option_says (Some k) value) (λ waiting. reading t p waiting rest))
       known k true (Some v) f found e v-is = refused (at h idle pos false) (word ∷ rest) seen _ (rw f refl) (stopped (at h idle pos false) word rest (λ nothing.
           let all : TooManyValues ∷ [] ≡ [] = sym (flag_value_turn c h idle pos word part l k v f e v-is) ∙ nothing in cc))
       known k true None f found e v-is = rw f (reacted_step h pos word rest seen (built_option k) [] (flagged k.name) texts ready place onward (option_key own (name_part part) k found)
@@ -506,7 +506,7 @@ module _ (t : List Known) (p : Bool) where
           }) place))
 
       go : (o : Option Known) → known_by t (name_part part) ≡ o
-          → Agree (at h idle pos false) (word ∷ rest) seen (option_read o (value_part part) (λ waiting. reading t p waiting rest))
+          → Agree (at h idle pos false) (word ∷ rest) seen (continued (option_says o (value_part part)) (λ waiting. reading t p waiting rest))
       go None e = stopped (at h idle pos false) word rest (λ nothing.
           let none : arg_by_long c (name_part part) ≡ None = long_for t p (name_part part) ∙ ap (option_map built_option) e in
           let all : UnknownArgument ∷ [] ≡ [] = sym (unknown_turn c h idle pos word part l none) ∙ nothing in cc)
@@ -517,8 +517,8 @@ module _ (t : List Known) (p : Bool) where
   idle_step own h pos word rest seen texts ready place onward = elim (form_of word) [
     | ends is ↦ read_as (at h idle pos false) (word ∷ rest) seen _ (names_read p rest) (read_end word rest is) (turned _ _ word rest seen (names_read p rest) (ap (λ (x : Text). turn c (at h idle pos false) x) is ∙ end_turn c h idle pos)
         (ap (λ (x : Text). walked c [] (at h idle pos false) x) is ∙ end_walk c h idle pos) (names_agree own h idle pos rest seen ready place))
-    | long part l o e ↦ read_as (at h idle pos false) (word ∷ rest) seen _ (option_read (known_by t (name_part part)) (value_part part) (λ waiting. reading t p waiting rest)) (read_long word part rest e o) (long_step own h pos word part rest seen texts.1 ready place onward l)
-    | plain l q o e ↦ read_as (at h idle pos false) (word ∷ rest) seen _ (name_read p word (reading t p None rest)) (read_plain word rest e o q) (name_step own h idle pos false word rest seen (reading t p None rest) ready place (plain_turn c h pos word l) (plain_walk c h pos word l)
+    | long part l o e ↦ read_as (at h idle pos false) (word ∷ rest) seen _ (continued (option_says (known_by t (name_part part)) (value_part part)) (λ waiting. reading t p waiting rest)) (read_long word part rest e o) (long_step own h pos word part rest seen texts.1 ready place onward l)
+    | plain l q o e ↦ read_as (at h idle pos false) (word ∷ rest) seen _ (continued (name_says p word) (λ waiting. reading t p waiting rest)) (read_plain word rest e o q) (name_step own h idle pos false word rest seen (λ waiting. reading t p waiting rest) ready place (plain_turn c h pos word l) (plain_walk c h pos word l)
         (λ now. onward None (held_program h word) 2 (seen ++ named word ∷ []) now (place_two _ (taken_now seen word))))
     | short l q o e ↦ refused (at h idle pos false) (word ∷ rest) seen (reading t p None (word ∷ rest)) (read_short word rest e o q) (stopped (at h idle pos false) word rest (short_turn t p h idle pos word ready.skip texts.0 e l))
   ]

@@ -34,51 +34,60 @@ name_part text = before_first (λ x. x == 61) text
 abbrev pub value_part : Text → Option Text
 value_part text = if list_any (λ x. x == 61) text then Some (after_first (λ x. x == 61) text) else None
 
+-- the option with this whole name
+abbrev pub known_by : List Known → Text → Option Known
+known_by table name = find (λ known. bytes_eq known.name name) table
+
+-- what a word says by itself: an item, or an option whose value is the next word, or nothing that is understood
+pub data Meaning : Type 0 where
+  whole : Item → Meaning
+  begun : Text → Meaning
+  wrong : Meaning
+
+-- a flag has no value
+abbrev pub flag_says : Text → Option Text → Meaning
+flag_says name None = whole (flagged name)
+flag_says name (Some value) = wrong
+
+abbrev pub valued_says : Text → Option Text → Meaning
+valued_says name None = begun name
+valued_says name (Some value) = whole (valued name value)
+
+abbrev pub option_says : Option Known → Option Text → Meaning
+option_says None value = wrong
+option_says (Some known) value = if known.is_flag then flag_says known.name value else valued_says known.name value
+
+-- a name is understood where the command has a program
+abbrev pub name_says : Bool → Text → Meaning
+name_says has_program word = if has_program then whole (named word) else wrong
+
+abbrev pub word_says : List Known → Bool → Option Text → Text → Meaning
+word_says table has_program (Some part) word = option_says (known_by table (name_part part)) (value_part part)
+word_says table has_program None word = if is_plain word then name_says has_program word else wrong
+
 -- ---- word by word
 
 abbrev pub with_item : Item → Items → Items
 with_item item rest = option_map (λ items. item ∷ items) rest
 
--- a word is a name, where the command has a program
-abbrev pub name_read : Bool → Text → Items → Items
-name_read has_program word rest = if has_program then with_item (named word) rest else None
+-- a word's item and those of the rest, which is read with the option that waits for its value
+abbrev pub continued : Meaning → (Option Text → Items) → Items
+continued (whole item) rest = with_item item (rest None)
+continued (begun name) rest = rest (Some name)
+continued wrong rest = None
 
+-- all words are names
 abbrev pub names_read : Bool → List Text → Items
 names_read has_program [] = Some []
-names_read has_program (word ∷ rest) = name_read has_program word (names_read has_program rest)
+names_read has_program (word ∷ rest) = continued (name_says has_program word) (λ waiting. names_read has_program rest)
 
--- a flag has no value; an option without one waits for it. `next` reads what follows, with the option that waits
-abbrev pub flag_read : Text → Option Text → (Option Text → Items) → Items
-flag_read name (Some value) next = None
-flag_read name None next = with_item (flagged name) (next None)
-
-abbrev pub valued_read : Text → Option Text → (Option Text → Items) → Items
-valued_read name (Some value) next = with_item (valued name value) (next None)
-valued_read name None next = next (Some name)
-
--- names are whole
-abbrev pub known_by : List Known → Text → Option Known
-known_by table name = find (λ known. bytes_eq known.name name) table
-
-abbrev pub option_read : Option Known → Option Text → (Option Text → Items) → Items
-option_read None value next = None
-option_read (Some known) value next = if known.is_flag then flag_read known.name value next
-    else valued_read known.name value next
-
-abbrev pub plain_read : Bool → Text → (Option Text → Items) → Items
-plain_read has_program word next = if is_plain word then name_read has_program word (next None) else None
-
-abbrev pub word_read : List Known → Bool → Option Text → Text → (Option Text → Items) → Items
-word_read table has_program (Some part) word next = option_read (known_by table (name_part part)) (value_part part) next
-word_read table has_program None word next = plain_read has_program word next
-
--- all words, where an option may wait for its value: that is plain, and behind a word `--` there are names alone
+-- all words, where an option may wait for its value, which is plain; behind a word `--` there are names alone
 unfoldable pub reading : List Known → Bool → Option Text → List Text → Items
 reading table has_program None [] = Some []
 reading table has_program (Some name) [] = None
 reading table has_program None (word ∷ rest) =
     if bytes_eq word (codes "--") then names_read has_program rest
-    else word_read table has_program (option_part word) word (λ waiting. reading table has_program waiting rest)
+    else continued (word_says table has_program (option_part word) word) (λ waiting. reading table has_program waiting rest)
 reading table has_program (Some name) (word ∷ rest) =
     if is_plain word then with_item (valued name word) (reading table has_program None rest) else None
 

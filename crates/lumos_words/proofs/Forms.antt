@@ -12,7 +12,7 @@ pub end_word : Text
 end_word = codes "--"
 
 hyphen : length (encodes (45 ∷ [])) ≡ 1
-unfolding encodes encode
+unfolding encode
 hyphen = refl
 
 pub record LooksPlain (word : Text) : Type 0 where

@@ -1,13 +1,15 @@
 -- A list of seeds, item by item.
-use Rattle.std.proofs.Common.{◌≡◌, ◌∙◌, ◌<◌, ◌≤◌, ◌+◌, ℕ, Bool, true, false, not, refl, sym, ap, List, [], ◌∷◌, ◌++◌, length, drop, get_or, Option, Some, None, append-nil, append_assoc, arith, length-append, eqb-true, nat_le, nat_lt, suc}
-use Rattle.std.specs.Prelude.{◌==◌, ◌&&◌, ◌||◌, if◌then◌else◌, option_and_then}
-use Rattle.std.specs.List.{list_any, slice_split}
+use Rattle.std.proofs.Common.{◌≡◌, ◌∙◌, ◌<◌, ◌≤◌, ◌+◌, ℕ, Bool, true, false, not, refl, sym, ap, List, [], ◌∷◌, ◌++◌, length, drop, get_or, Option, Some, None, append-nil, append_assoc, arith, length-append, eqb-true, nat_le, nat_lt, suc, leb-true, subst, ◌-◌}
+use Rattle.std.specs.Prelude.{◌==◌, ◌&&◌, ◌||◌, if◌then◌else◌, IfSome, option_and_then}
+use Rattle.std.specs.List.{All, after_first, before_first, list_any, slice_split}
 use Rattle.std.proofs.lemmas.Bool.Decides.{nat_tests}
 use Rattle.std.proofs.lemmas.List.{at_drop_more, at_drop_all}
+use Rattle.std.proofs.lemmas.List.Elements.{All-cons}
 use Rattle.std.proofs.lemmas.List.Folds.{list_any-append}
 use Rattle.clap.proofs.WalkLemmas.{both}
 use Rattle.lumos_words.specs.Options.{Text}
-use Rattle.lumos_words.specs.Numbers.{are_distinct, are_seeds, has_vertex, if_new, seed_before, seed_of, seeds_in, seeds_of}
+use Rattle.lumos_words.specs.Fits.{SeedFits, SeedsFit}
+use Rattle.lumos_words.specs.Numbers.{are_distinct, are_seeds, class_of, has_vertex, if_new, number_of, seed_before, seed_of, seed_of_parts, seeds_in, seeds_of, vertex_of}
 use Rattle.lumos_words.specs.declared.request.SeedWord.{SeedWord}
 
 -- ---- one item after another
@@ -126,3 +128,95 @@ each_new before (item ∷ rest) fit = one_together before item rest fit (λ long
 
 pub seeds_whole : (text : Text) → seeds_after [] (slice_split (λ b. b == 44) text) ≡ seeds_of text
 seeds_whole text = each_new [] (slice_split (λ b. b == 44) text) refl
+
+-- ---- they lie in their ranges
+
+class_fits : (text : Text) (class : ℕ) → class_of text ≡ Some class → class ≤ 3
+class_fits [] class h = cc
+class_fits (byte ∷ []) class h = go (nat_le 48 byte && nat_le byte 51) refl
+  where
+    go : (b : Bool) → (nat_le 48 byte && nat_le byte 51) ≡ b → class ≤ 3
+    go true e =
+        let is : Some (byte - 48) ≡ Some class = rw e at h in
+        let same : byte - 48 ≡ class = cc in
+        let high : byte ≤ 51 = leb-true byte 51 (both (nat_le 48 byte) (nat_le byte 51) e).1 in
+        omega (arith, same)
+    go false e =
+        let is : None ≡ Some class = rw e at h in
+        cc
+class_fits (x ∷ y ∷ rest) class h = cc
+
+vertex_fits : (text : Text) (vertex : ℕ) → vertex_of text ≡ Some vertex → vertex ≤ 268435455
+vertex_fits text vertex h = go (number_of text) refl
+  where
+    test : (n : ℕ) (b : Bool) → nat_le n 268435455 ≡ b → number_of text ≡ Some n → vertex ≤ 268435455
+    test n true e is =
+        let named : Some n ≡ Some vertex = rw (is, e) at h in
+        let same : n ≡ vertex = cc in
+        let low : n ≤ 268435455 = leb-true n 268435455 e in
+        omega (arith, same)
+    test n false e is =
+        let none : None ≡ Some vertex = rw (is, e) at h in
+        cc
+
+    go : (o : Option ℕ) → number_of text ≡ o → vertex ≤ 268435455
+    go None is =
+        let none : None ≡ Some vertex = rw is at h in
+        cc
+    go (Some n) is = test n (nat_le n 268435455) refl is
+
+seed_fits : (item : Text) (seed : SeedWord) → seed_of item ≡ Some seed → SeedFits seed
+seed_fits item seed h = go (list_any (λ b. b == 58) item) refl
+  where
+    low : Text
+    low = before_first (λ b. b == 58) item
+
+    high : Text
+    high = after_first (λ b. b == 58) item
+
+    parts : (v k : Option ℕ) → vertex_of low ≡ v → class_of high ≡ k → seed_of_parts v k ≡ Some seed → SeedFits seed
+    parts None k v-is k-is e = cc
+    parts (Some v) None v-is k-is e = cc
+    parts (Some v) (Some k) v-is k-is e =
+        let is : record { vertex = v; class = k } ≡ seed = cc in
+        subst SeedFits is (record { vertex = vertex_fits low v v-is; class = class_fits high k k-is })
+
+    go : (b : Bool) → list_any (λ b. b == 58) item ≡ b → SeedFits seed
+    go true e = parts (vertex_of low) (class_of high) refl refl (rw e at h)
+    go false e =
+        let none : None ≡ Some seed = rw e at h in
+        cc
+
+each_fits : (items : List Text) (seeds : List SeedWord) → seeds_in items ≡ Some seeds → All SeedFits seeds
+each_fits [] seeds h =
+    let none : [] ≡ seeds = cc in
+    subst (All SeedFits) none (λ k d below. absurd (omega arith))
+each_fits (item ∷ rest) seeds h = go (seed_of item) (seeds_in rest) refl (each_fits rest) h
+  where
+    go : (o : Option SeedWord) (more : Option (List SeedWord)) → seed_of item ≡ o → ((tail : List SeedWord) → more ≡ Some tail → All SeedFits tail) → seed_before o more ≡ Some seeds → All SeedFits seeds
+    go None more is later e = cc
+    go (Some seed) None is later e = cc
+    go (Some seed) (Some tail) is later e =
+        let same : seed ∷ tail ≡ seeds = cc in
+        subst (All SeedFits) same (All-cons SeedFits seed tail (seed_fits item seed is) (later tail refl))
+
+pub seeds_fit : (text : Text) (o : Option (List SeedWord)) → o ≡ seeds_of text → IfSome o SeedsFit
+seeds_fit text None h = tt
+seeds_fit text (Some seeds) h = go (seeds_in (slice_split (λ b. b == 44) text)) refl
+  where
+    test : (found : List SeedWord) (b : Bool) → are_seeds found ≡ b → seeds_in (slice_split (λ b. b == 44) text) ≡ Some found → SeedsFit seeds
+    test found true good is =
+        let named : Some seeds ≡ Some found = rw (is, good) at h in
+        let same : found ≡ seeds = cc in
+        let parts = both _ _ good in
+        let few : length found ≤ 64 = leb-true (length found) 64 parts.0 in
+        subst SeedsFit same (record { each = each_fits (slice_split (λ b. b == 44) text) found is; few = few; distinct = parts.1 })
+    test found false bad is =
+        let none : Some seeds ≡ None = rw (is, bad) at h in
+        cc
+
+    go : (o : Option (List SeedWord)) → seeds_in (slice_split (λ b. b == 44) text) ≡ o → SeedsFit seeds
+    go None is =
+        let none : Some seeds ≡ None = rw is at h in
+        cc
+    go (Some found) is = test found (are_seeds found) refl is

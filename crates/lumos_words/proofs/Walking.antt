@@ -522,6 +522,7 @@ module _ (t : List Known) (p : Bool) where
         (λ now. onward None (held_program h word) 2 (seen ++ named word ∷ []) now (place_two _ (taken_now seen word))))
     | short l q o e ↦ refused (at h idle pos false) (word ∷ rest) seen (reading t p None (word ∷ rest)) (read_short word rest e o q) (stopped (at h idle pos false) word rest (short_turn t p h idle pos word ready.skip texts.0 e l))
   ]
+
   no_value : (name : Text) (h : Held) (seen : List Item) → IsWaiting name seen h → Unsettled h
   no_value name h seen wait nothing =
       missing_fault wait.known h.rows wait.takes-value (rw (wait.pending, wait.found) at nothing)
@@ -550,8 +551,8 @@ module _ (t : List Known) (p : Bool) where
 
       go : (b : Bool) → stands name seen ≡ b → Agree (at h (option name) pos false) (word ∷ rest) seen (with_item (valued name word) (reading t p None rest))
       go true e = repeated_item (at h (option name) pos false) (word ∷ rest) seen (valued name word) (reading t p None rest) e (λ nothing.
-          let later : ends_in c (walked c [] (at h (option name) pos false) word) rest ≡ [] = none_next _ _ (sym (step_ends c (at h (option name) pos false) word rest) ∙ nothing) in
-          stuck_idle after pos (is_free seen) rest wait.skip place texts (λ none. let all : ArgumentConflict ∷ [] ≡ [] = sym (settle-is ∙ ap repeat_kinds e) ∙ none in cc) (rw walk-is at later))
+          let later : ends_in c (walked c [] (at h (option name) pos false) word) rest ≡ [] = none_next (turn c (at h (option name) pos false) word) (ends_in c (walked c [] (at h (option name) pos false) word) rest) (sym (step_ends c (at h (option name) pos false) word rest) ∙ nothing) in
+          stuck_idle after pos (is_free seen) rest wait.skip place texts (λ none. let all : ArgumentConflict ∷ [] ≡ [] = sym (settle-is ∙ ap repeat_kinds e) ∙ none in cc) (subst (λ (w : Walk). ends_in c w rest ≡ []) walk-is later))
       go false e =
           let fresh : stands k.name seen ≡ false = ap (λ (n : Text). stands n seen) wait.named-so ∙ e in
           let rows : (settled c after).rows ≡ item_rows (seen ++ valued name word ∷ []) = rw (wait.found, wait.rows) (valued_used k word seen wait.takes-value fresh ∙ ap (λ (n : Text). item_rows (seen ++ valued n word ∷ [])) wait.named-so) in

@@ -5,3 +5,4 @@ pub mod Faults
 pub mod Settings
 pub mod Requests
 pub mod Matches
+pub mod Fits

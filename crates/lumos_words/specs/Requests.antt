@@ -1,5 +1,5 @@
 -- What the words ask for, or the first fault.
-use Rattle.std.specs.Prelude.{◌≡◌, ⊤, Bool, List, [], ◌∷◌, Option, Some, None, Result, Ok, Err, codes, unwrap_or}
+use Rattle.std.specs.Prelude.{◌≡◌, ⊤, ℕ, Bool, List, [], ◌∷◌, Option, Some, None, Result, Ok, Err, codes, unwrap_or}
 use Rattle.lumos_words.specs.Options.{Text, command_of, has_program, options_of}
 use Rattle.lumos_words.specs.Words.{Items, said, understood}
 use Rattle.lumos_words.specs.Faults.{fault}
@@ -44,9 +44,13 @@ build_words sizes dir both = record {
 abbrev pub iter_words : Sizes → Ways → IterWords
 iter_words sizes ways = record { iterations = sizes.iterations; budget = sizes.budget; plain = ways.plain; brief = ways.brief }
 
+-- so many parts where none are given
+abbrev pub with_parts : ℕ → Sizes → Sizes
+with_parts absent sizes = record sizes { parts = Some (unwrap_or sizes.parts absent) }
+
 abbrev pub request_with : Task → Sizes → Ways → Text → Bool → Request
 request_with (task.Run program) sizes ways dir both = requested.Run (program_words program ways) (build_words sizes dir both) (iter_words sizes ways)
-request_with task.Build sizes ways dir both = requested.Build (build_words sizes dir both)
+request_with task.Build sizes ways dir both = requested.Build (build_words (with_parts 16 sizes) dir both)
 request_with (task.Replay program) sizes ways dir both = requested.Replay (program_words program ways) (unwrap_or sizes.parts 2) sizes.vertices both
 
 abbrev pub request_for : Plan → Text → Bool → Request

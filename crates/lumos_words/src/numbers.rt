@@ -1,5 +1,6 @@
 // Numbers, and the seeds that a text lists.
 ghost use Rattle.std.specs.Prelude.{◌≡◌, ◌<◌, IfSome, length};
+ghost use Rattle.lumos_words.specs.Fits.{SeedsFit};
 ghost use Rattle.lumos_words.specs.Numbers.{class_of, has_vertex, if_new, number_of, seed_of, seeds_of, vertex_of};
 
 use crate::request::{SeedWord, SeedWords};
@@ -65,7 +66,8 @@ fn next_seed(seeds: &[SeedWord], item: &str) -> Option<SeedWord>
 
 // The seeds that a text lists.
 pub(crate) fn seeds_of(text: &str) -> Option<SeedWords>
-    ensures { result ≡ seeds_of text.now }
+    ensures value { result ≡ seeds_of text.now }
+    ensures fits { IfSome result SeedsFit }
 {
     let mut seeds: ArrayVec<SeedWord, 64> = ArrayVec::new();
     for item in text.split(',') {

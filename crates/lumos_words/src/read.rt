@@ -1,7 +1,8 @@
 // The request that the words make.
-ghost use Rattle.std.specs.Prelude.{◌≡◌, IfOk};
+ghost use Rattle.std.specs.Prelude.{◌≡◌, ◌<◌, ◌≤◌, IfOk, length};
+ghost use Rattle.lumos_words.specs.Fits.{GridFits, IterFits, PlanFits, ProgramFits, RequestFits, SizesFit, WaysFit};
 ghost use Rattle.lumos_words.specs.Matches.{text_in, texts_of};
-ghost use Rattle.lumos_words.specs.Requests.{IsAnswer, asked, build_words, iter_words, program_words, request, request_for};
+ghost use Rattle.lumos_words.specs.Requests.{IsAnswer, asked, build_words, iter_words, program_words, request, request_for, with_parts};
 
 use crate::faults::{UsageWhat, WordsFault, fault};
 use crate::parse::parse;
@@ -13,7 +14,9 @@ use std::alloc::{AllocError, Global};
 
 // A program, with those of the options that it uses.
 fn program_words(program: ProgramName, ways: Ways) -> ProgramWords
-    ensures { result ≡ program_words program ways }
+    requires { WaysFit ways }
+    ensures value { result ≡ program_words program ways }
+    ensures fits { ProgramFits result }
 {
     let Ways {
         unit,
@@ -32,7 +35,10 @@ fn program_words(program: ProgramName, ways: Ways) -> ProgramWords
 }
 
 fn build_words(alloc: Global, sizes: Sizes, dir: &str, both: bool) -> Result<BuildWords, AllocError>
-    ensures { IfOk result (λ b. b ≡ build_words sizes dir.now both) }
+    requires sizes { SizesFit sizes }
+    requires dir { 0 < length dir.now }
+    ensures value { IfOk result (λ b. b ≡ build_words sizes dir.now both) }
+    ensures fits { IfOk result GridFits }
 {
     let dir = PathText::from_text(alloc, dir)?;
     Ok(BuildWords {
@@ -47,7 +53,9 @@ fn build_words(alloc: Global, sizes: Sizes, dir: &str, both: bool) -> Result<Bui
 }
 
 fn iter_words(sizes: Sizes, ways: &Ways) -> IterWords
-    ensures { result ≡ iter_words sizes ways.now }
+    requires { SizesFit sizes }
+    ensures value { result ≡ iter_words sizes ways.now }
+    ensures fits { IterFits result }
 {
     IterWords {
         iterations: sizes.iterations,
@@ -57,8 +65,24 @@ fn iter_words(sizes: Sizes, ways: &Ways) -> IterWords
     }
 }
 
+// So many parts where none are given.
+fn with_parts(absent: u64, sizes: Sizes) -> Sizes
+    requires sizes { SizesFit sizes }
+    requires absent { 1 ≤ absent }
+    ensures value { result ≡ with_parts absent sizes }
+    ensures fits { SizesFit result }
+{
+    Sizes {
+        parts: Some(sizes.parts.unwrap_or(absent)),
+        ..sizes
+    }
+}
+
 fn request_for(alloc: Global, plan: Plan, dir: &str, both: bool) -> Result<Request, AllocError>
-    ensures { IfOk result (λ r. r ≡ request_for plan dir.now both) }
+    requires plan { PlanFits plan }
+    requires dir { 0 < length dir.now }
+    ensures value { IfOk result (λ r. r ≡ request_for plan dir.now both) }
+    ensures fits { IfOk result RequestFits }
 {
     let Plan { task, sizes, ways } = plan;
     match task {
@@ -68,7 +92,7 @@ fn request_for(alloc: Global, plan: Plan, dir: &str, both: bool) -> Result<Reque
             grid: build_words(alloc, sizes, dir, both)?,
         }),
         Task::Build => Ok(Request::Build {
-            grid: build_words(alloc, sizes, dir, both)?,
+            grid: build_words(alloc, with_parts(16, sizes), dir, both)?,
         }),
         Task::Replay(program) => Ok(Request::Replay {
             program: program_words(program, ways),
@@ -81,7 +105,8 @@ fn request_for(alloc: Global, plan: Plan, dir: &str, both: bool) -> Result<Reque
 
 // What the command is asked for.
 fn asked(alloc: Global, command: CommandWord, matches: &ArgMatches) -> Result<Request, WordsFault>
-    ensures { IsAnswer (asked command (text_in matches.now)) result }
+    ensures answer { IsAnswer (asked command (text_in matches.now)) result }
+    ensures fits { IfOk result RequestFits }
 {
     let plan = match plan_of(command, matches) {
         Ok(plan) => plan,
@@ -104,6 +129,7 @@ fn asked(alloc: Global, command: CommandWord, matches: &ArgMatches) -> Result<Re
 /// nothing was kept, so they may be read again.
 pub fn read_words(alloc: Global, words: &[String]) -> Result<Request, WordsFault>
     ensures answer { IsAnswer (request (texts_of words.now)) result }
+    ensures fits { IfOk result RequestFits }
 {
     let Some(first) = words.first() else {
         return Err(WordsFault::Usage(fault(UsageWhat::NoCommand)));

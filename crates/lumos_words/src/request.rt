@@ -118,7 +118,8 @@ pub enum ProgramWords {
 pub struct BuildWords {
     /// The directory of the grid's files, `--dir`.
     pub dir: PathText,
-    /// Into how many parts the vertices are cut, `--parts`: 1 or more, or `None` where it isn't given.
+    /// Into how many parts the vertices are cut, `--parts`: 1 or more. Where it isn't given, `build` has 16, and `run`
+    /// has `None`.
     pub parts: Option<u64>,
     /// How many bytes the records of values and sums may take in memory, `--budget`: 1 to 1099511627776.
     pub budget: u64,
@@ -166,7 +167,7 @@ pub enum Request {
     Replay {
         /// The program.
         program: ProgramWords,
-        /// Into how many parts the vertices are cut, `--parts`: 1 or more.
+        /// Into how many parts the vertices are cut, `--parts`: 1 or more, and 2 where it isn't given.
         parts: u64,
         /// How many vertices the list has, `--vertices`, or `None` where it isn't given.
         vertices: Option<u64>,

@@ -1,5 +1,6 @@
 // The values of the options.
-ghost use Rattle.std.specs.Prelude.{◌≡◌, ◌≤◌, IfOk, IfSome, option_map};
+ghost use Rattle.std.specs.Prelude.{◌≡◌, ◌<◌, ◌≤◌, IfOk, IfSome, codes, length, option_map};
+ghost use Rattle.lumos_words.specs.Fits.{PlanFits, SeedsFit, SizesFit, WaysFit};
 ghost use Rattle.lumos_words.specs.Matches.{text_in};
 ghost use Rattle.lumos_words.specs.Settings.{directory, is_second, is_set, non_empty, number_in, number_or, plan_of, program_named, program_of, result_done, seeds_said, sizes_of, task_of, ways_of};
 
@@ -182,7 +183,8 @@ fn is_second(
 
 // The seeds.
 fn seeds_in(text: Option<&str>) -> Result<SeedWords, UsageFault>
-    ensures { result ≡ seeds_said (option_map (λ s. s.now) text.entry) }
+    ensures value { result ≡ seeds_said (option_map (λ s. s.now) text.entry) }
+    ensures fits { IfOk result SeedsFit }
 {
     match text {
         None => Ok(SeedWords::none()),
@@ -194,7 +196,8 @@ fn seeds_in(text: Option<&str>) -> Result<SeedWords, UsageFault>
 }
 
 fn sizes_of(matches: &ArgMatches) -> Result<Sizes, UsageFault>
-    ensures { result ≡ sizes_of (text_in matches.now) }
+    ensures value { result ≡ sizes_of (text_in matches.now) }
+    ensures fits { IfOk result SizesFit }
 {
     let parts = number_in(matches, OptionName::Parts, 1, u64::MAX)?;
     let iterations = number_or(matches, OptionName::Iterations, 1, 1000000, 10)?;
@@ -219,7 +222,8 @@ fn sizes_of(matches: &ArgMatches) -> Result<Sizes, UsageFault>
 }
 
 fn ways_of(matches: &ArgMatches) -> Result<Ways, UsageFault>
-    ensures { result ≡ ways_of (text_in matches.now) }
+    ensures value { result ≡ ways_of (text_in matches.now) }
+    ensures fits { IfOk result WaysFit }
 {
     let plain = is_second(matches, "mode", "fed", "plain", UsageWhat::BadMode)?;
     let brief = is_second(matches, "show", "all", "brief", UsageWhat::BadShow)?;
@@ -245,7 +249,9 @@ fn ways_of(matches: &ArgMatches) -> Result<Ways, UsageFault>
 
 // What is to be done, or the first fault: the program's, then option by option.
 pub(crate) fn plan_of(command: CommandWord, matches: &ArgMatches) -> Result<Plan, UsageFault>
-    ensures { result ≡ plan_of command (text_in matches.now) }
+    ensures value { result ≡ plan_of command (text_in matches.now) }
+    ensures fits { IfOk result PlanFits }
+    ensures dir { IfOk result (λ _. 0 < length (directory (text_in matches.now (codes "dir")))) }
 {
     let task = task_of(command, matches.get_str("PROGRAM"))?;
     test_directory(matches.get_str("dir"))?;

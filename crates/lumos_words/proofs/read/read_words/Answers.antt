@@ -14,7 +14,10 @@ returns-in-Ok-Some c =
     let items = understood (options_of word) (has_program word) (drop 1 (texts_of c.args.words.now)) in
     let is = behind_first c.args.words.now c.in-Some.first.now word c.in-Some.ensures.value (c.in-Some-command_of.ensures ∙ ap command_of c.as_str.ensures.value) in
     let says = rw c.in-Ok-Some.field-0-is at c.in-Ok-Some.ensures in
-    record { answer = subst (λ (wanted : Result Request UsageFault). IsAnswer wanted c.asked.result) (sym is) (matched word items c.in-Ok-Some.matches c.asked.result says c.asked.ensures) }
+    record {
+      answer = subst (λ (wanted : Result Request UsageFault). IsAnswer wanted c.asked.result) (sym is) (matched word items c.in-Ok-Some.matches c.asked.result says c.asked.ensures.answer);
+      fits = c.asked.ensures.fits;
+    }
 
 pub returns-in-Ok-None : goal.returns-in-Ok-None
 returns-in-Ok-None c =
@@ -22,4 +25,4 @@ returns-in-Ok-None c =
     let items = understood (options_of word) (has_program word) (drop 1 (texts_of c.args.words.now)) in
     let is = behind_first c.args.words.now c.in-Some.first.now word c.in-Some.ensures.value (c.in-Some-command_of.ensures ∙ ap command_of c.as_str.ensures.value) in
     let says = rw c.in-Ok-None.field-0-is at c.in-Ok-None.ensures in
-    record { answer = is ∙ (unmatched word items says ∙ sym (ap (λ (why : UsageFault). Err why) c.fault-in-Ok-None.ensures)) }
+    record { answer = is ∙ (unmatched word items says ∙ sym (ap (λ (why : UsageFault). Err why) c.fault-in-Ok-None.ensures)); fits = tt }

@@ -1,6 +1,6 @@
 -- What a word looks like, in our words and in clap's.
-use Rattle.std.proofs.Common.{◌≡◌, ◌∙◌, ℕ, Bool, true, false, not, refl, sym, ap, ap₂, List, [], ◌∷◌, ◌++◌, length, Option, Some, None, codes, arith, true≢false, eqb-true}
-use Rattle.std.specs.Prelude.{is_some, ◌&&◌, ◌||◌, ◌==◌, slice_get}
+use Rattle.std.proofs.Common.{◌≡◌, ℕ, Bool, true, false, refl, ap, List, [], ◌∷◌, length, Some, None, codes, arith, eqb-true}
+use Rattle.std.specs.Prelude.{◌==◌, slice_get}
 use Rattle.std.specs.Str.{bytes_eq, chars, IsUtf8}
 use Rattle.std.proofs.lemmas.Str.{encodes-chars}
 use Rattle.std.proofs.Math.Utf8.{encodes, encode}

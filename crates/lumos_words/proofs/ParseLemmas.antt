@@ -1,6 +1,5 @@
 -- What the functions that call clap need.
-use Rattle.std.proofs.Common.{◌≡◌, ◌∙◌, ◌⊎◌, ◌<◌, ℕ, Bool, true, false, refl, sym, ap, ap₂, subst, arith, List, [], ◌∷◌, ◌++◌, map, length, drop, Option, Some, None, append-nil, append_assoc, inl, inr, codes, take, ◌+◌}
-use Rattle.std.specs.Prelude.{◌&&◌}
+use Rattle.std.proofs.Common.{◌≡◌, ◌∙◌, ◌<◌, ℕ, Bool, true, false, refl, sym, ap, arith, List, [], ◌∷◌, ◌++◌, map, length, drop, Some, None, append-nil, inl, inr, codes, take, ◌+◌}
 use Rattle.std.specs.Str.{IsUtf8}
 use Rattle.std.proofs.lemmas.List.{map-append, take_more}
 use Rattle.std.specs.Prelude.{String}
@@ -12,14 +11,14 @@ use Rattle.clap.specs.Matches.{found_of}
 use Rattle.clap.specs.Simple.{App, is_simple, matches_of, new_shape, with_rule}
 use Rattle.clap.specs.Kinds.{HasKind, IsAmong, Kinds}
 use Rattle.clap.specs.Values.{kind_of}
-use Rattle.clap.specs.Faults.{fault_of, is_simple_and_free}
+use Rattle.clap.specs.Faults.{fault_of}
 use Rattle.clap.specs.declared.error.Error.{Error}
 use Rattle.clap.specs.declared.error.kind.ErrorKind.TheVariants.{OutOfMemory}
 use Rattle.clap.specs.declared.parser.matches.ArgMatches.{ArgMatches}
 use Rattle.clap.proofs.WalkLemmas.{both, first_value-rows}
 use Rattle.lumos_words.specs.Options.{Known, Text, has_option, options_of}
 use Rattle.lumos_words.specs.Words.{AreTexts, HasOwnName, Items, understood}
-use Rattle.lumos_words.specs.Matches.{Says, SaysAll, known_of, table_of, texts_of}
+use Rattle.lumos_words.specs.Matches.{SaysAll, known_of, table_of, texts_of}
 use Rattle.lumos_words.specs.Matches.{app_for, option_rule, program_rule, with_option}
 use Rattle.lumos_words.specs.declared.table.CommandWord.{CommandWord}
 use Rattle.lumos_words.specs.declared.table.CommandWord.TheVariants.{Run, Build, Replay}

@@ -1,12 +1,11 @@
 -- The rows that clap keeps for items, and what one more use makes of them.
-use Rattle.std.proofs.Common.{◌≡◌, ◌∙◌, ℕ, Bool, true, false, not, refl, sym, ap, ap₂, List, [], ◌∷◌, ◌++◌, map, Option, Some, None, codes, append_assoc, append-nil}
-use Rattle.std.specs.Prelude.{is_some, ◌&&◌, ◌||◌}
-use Rattle.std.specs.List.{list_any}
+use Rattle.std.proofs.Common.{◌≡◌, ◌∙◌, Bool, true, false, refl, sym, ap, List, [], ◌∷◌, ◌++◌, map, Some, None, codes, append-nil}
+use Rattle.std.specs.Prelude.{◌||◌}
 use Rattle.std.specs.Str.{bytes_eq}
 use Rattle.std.proofs.lemmas.List.{map-append}
-use Rattle.clap.specs.Walk.{Row, Rule, at_row, has_row, more_values, takes_values, used}
+use Rattle.clap.specs.Walk.{Row, at_row, has_row, more_values, takes_values, used}
 use Rattle.clap.specs.Kinds.{Kinds}
-use Rattle.clap.specs.Faults.{repeat_fault, use_fault}
+use Rattle.clap.specs.Faults.{use_fault}
 use Rattle.clap.specs.declared.parser.matches.ValueSource.TheVariants.{CommandLine}
 use Rattle.clap.specs.declared.builder.value_parser.Reading.TheVariants.{AsWritten}
 use Rattle.clap.specs.declared.error.kind.ErrorKind.TheVariants.{ArgumentConflict, InvalidValue}

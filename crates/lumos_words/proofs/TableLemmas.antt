@@ -1,11 +1,10 @@
 -- What clap builds of a table.
-use Rattle.std.proofs.Common.{◌≡◌, ◌∙◌, ℕ, Bool, true, false, not, refl, sym, ap, ap₂, List, [], ◌∷◌, ◌++◌, map, Option, Some, None, codes, option_map, cond, ◌==◌}
+use Rattle.std.proofs.Common.{◌≡◌, ℕ, Bool, true, false, refl, ap, List, [], ◌∷◌, ◌++◌, map, Some, None, codes, option_map, cond}
 use Rattle.std.proofs.lemmas.Slice.Eq.{bytes_eq-Decides}
-use Rattle.std.specs.Prelude.{find, is_some, ◌&&◌, ◌||◌}
 use Rattle.std.specs.List.{list_any, list_all}
 use Rattle.std.specs.Str.{bytes_eq}
-use Rattle.clap.specs.Walk.{Rule, Text, arg_by_id, arg_by_index, arg_by_long, has_long, is_early_multiple}
-use Rattle.clap.specs.Simple.{Shape, filled, filled_from, new_shape, built, is_simple, with_index}
+use Rattle.clap.specs.Walk.{Rule, Text, arg_by_id, arg_by_index, arg_by_long, is_early_multiple}
+use Rattle.clap.specs.Simple.{Shape, filled, filled_from, new_shape, built, with_index}
 use Rattle.clap.specs.Faults.{is_simple_and_free}
 use Rattle.lumos_words.specs.Options.{Known}
 use Rattle.lumos_words.specs.Words.{known_by}

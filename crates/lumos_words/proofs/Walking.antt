@@ -1,23 +1,18 @@
 -- clap's walk over the words, beside our reading of them.
-use Rattle.std.proofs.Common.{◌≡◌, ◌∙◌, ℕ, Bool, true, false, not, refl, sym, ap, ap₂, subst, List, [], ◌∷◌, ◌++◌, map, cond, Option, Some, None, codes, append_assoc, append-nil, zero, suc, length, true≢false, add-one}
-use Rattle.std.specs.Prelude.{is_some, ◌&&◌, ◌||◌, fold, slice_get, option_map, option_and_then}
-use Rattle.std.specs.List.{list_any}
+use Rattle.std.proofs.Common.{◌≡◌, ◌∙◌, ℕ, Bool, true, false, not, refl, sym, ap, subst, List, [], ◌∷◌, ◌++◌, cond, Option, Some, None, codes, append_assoc, append-nil, suc, length, true≢false}
+use Rattle.std.specs.Prelude.{◌&&◌, ◌||◌, fold, slice_get, option_map}
 use Rattle.std.specs.Option.{option_map_or}
 use Rattle.std.specs.Str.{bytes_eq, chars, IsUtf8}
-use Rattle.std.proofs.lemmas.List.{map-append}
 use Rattle.std.proofs.lemmas.Slice.Eq.{bytes_eq-Decides}
-use Rattle.clap.specs.Lexer.{long_of, short_of}
-use Rattle.clap.specs.Walk.{Held, Row, Rule, Waiting, Walk, arg_by_id, arg_by_index, arg_by_long, arg_by_short, attached_value, has_row, has_short, idle, is_pending, option, positional, positional_held, pushed, reacted, settled, subcommand_met, takes_values, to_positional, used, walked, long_word}
-use Rattle.clap.specs.Simple.{Shape}
+use Rattle.clap.specs.Walk.{Held, Row, Rule, Waiting, Walk, arg_by_id, arg_by_index, arg_by_long, arg_by_short, idle, option, positional, reacted, settled, subcommand_met, to_positional, used, walked}
 use Rattle.clap.specs.Kinds.{Kinds, or_else}
-use Rattle.clap.specs.Faults.{flags_fault, long_fault, positional_fault, react_fault, settle_fault, step_fault, stray_fault, turn_fault, use_fault, walk_fault}
-use Rattle.clap.specs.declared.error.kind.ErrorKind.{ErrorKind}
+use Rattle.clap.specs.Faults.{flags_fault, positional_fault, react_fault, settle_fault, turn_fault, use_fault, walk_fault}
 use Rattle.clap.specs.declared.error.kind.ErrorKind.TheVariants.{ArgumentConflict, TooManyValues, UnknownArgument}
 use Rattle.lumos_words.specs.Options.{Known, Text}
 use Rattle.lumos_words.specs.Words.{Item, Items, flagged, is_once, is_plain, key, known_by, continued, name_part, name_says, named, names_read, option_part, option_says, reading, stands, value_part, valued, with_item, AreTexts, HasOwnName}
-use Rattle.lumos_words.proofs.TableLemmas.{built_option, built_program, first_for, found_name, id_for, long_for, program_for, rules_for, second_for, shape_for}
+use Rattle.lumos_words.proofs.TableLemmas.{built_option, built_program, found_name, id_for, long_for, program_for, rules_for, second_for, shape_for}
 use Rattle.lumos_words.proofs.Forms.{LooksLong, LooksPlain, LooksShort, has_char, long_looks, long_not_plain, plain_looks, short_looks}
-use Rattle.lumos_words.proofs.Rows.{flag_fault, flag_takes, flag_used, item_row, item_rows, missing_fault, program_fault, program_used, repeat_kinds, valued_fault, valued_takes, valued_used}
+use Rattle.lumos_words.proofs.Rows.{flag_fault, flag_used, item_rows, missing_fault, program_fault, program_used, repeat_kinds, valued_fault, valued_used}
 
 -- ---- truth values
 

@@ -1,13 +1,13 @@
 -- A whole parse, in our words.
-use Rattle.std.proofs.Common.{◌≡◌, ◌∙◌, ℕ, Bool, true, false, not, refl, sym, ap, ap₂, subst, List, [], ◌∷◌, ◌++◌, map, cond, Option, Some, None, codes, drop, option_map, unwrap_or, append-nil}
-use Rattle.std.specs.Prelude.{is_some, ◌&&◌, ◌||◌, fold, find, slice_get, option_and_then}
+use Rattle.std.proofs.Common.{◌≡◌, ◌∙◌, Bool, true, false, not, refl, sym, ap, List, [], ◌∷◌, ◌++◌, cond, Option, Some, None, codes, unwrap_or, append-nil}
+use Rattle.std.specs.Prelude.{is_some, ◌&&◌, fold, find, slice_get, option_and_then}
 use Rattle.std.specs.Option.{option_or}
 use Rattle.std.specs.List.{list_any}
 use Rattle.std.specs.Str.{bytes_eq}
 use Rattle.std.proofs.lemmas.List.Folds.{find-append}
 use Rattle.std.proofs.lemmas.Slice.Eq.{bytes_eq-Decides}
-use Rattle.clap.specs.Walk.{Held, Row, Rule, first_of, finished, has_row, more_values, nothing_held, settled, walk, walk_from, walked, with_default}
-use Rattle.clap.specs.Simple.{App, Shape, entered, matches_of}
+use Rattle.clap.specs.Walk.{Row, Rule, first_of, finished, has_row, more_values, nothing_held, settled, walk, walk_from, with_default}
+use Rattle.clap.specs.Simple.{Shape, entered, matches_of}
 use Rattle.clap.specs.Kinds.{Kinds, or_else}
 use Rattle.clap.specs.Faults.{check_fault, default_fault, built_fault, defaults_fault, entered_fault, fault_of, settle_fault, walk_fault}
 use Rattle.clap.specs.Takes.{is_given}
@@ -16,9 +16,9 @@ use Rattle.clap.specs.declared.builder.value_parser.Reading.TheVariants.{AsWritt
 use Rattle.lumos_words.specs.Options.{Known, Text}
 use Rattle.lumos_words.specs.Words.{AreTexts, HasOwnName, Item, Items, is_flag, is_once, key, named, once, reading, said, text_of, understood, valued, flagged}
 use Rattle.lumos_words.specs.Matches.{app_for}
-use Rattle.lumos_words.proofs.TableLemmas.{built_option, built_program, built_programs, built_table, first_for, rules_for, shape_for}
-use Rattle.lumos_words.proofs.Rows.{at_end, item_row, item_rows, item_values, row_stands}
-use Rattle.lumos_words.proofs.Walking.{Agree, IsPlace, IsReady, agree, end_rows, ends_in, nothing_after}
+use Rattle.lumos_words.proofs.TableLemmas.{built_option, built_program, built_table, first_for, rules_for, shape_for}
+use Rattle.lumos_words.proofs.Rows.{at_end, item_row, item_rows, item_values}
+use Rattle.lumos_words.proofs.Walking.{Agree, agree, end_rows, ends_in, nothing_after}
 
 -- ---- after the walk
 

@@ -1,5 +1,5 @@
 -- The numbers of a request lie in the ranges of their options.
-use Rattle.std.specs.Prelude.{◌≡◌, ◌≤◌, ◌<◌, ⊤, ℕ, Bool, true, List, length, IfSome}
+use Rattle.std.specs.Prelude.{◌≡◌, ◌≤◌, ◌<◌, ⊤, ℕ, true, List, length, IfSome}
 use Rattle.std.specs.List.{All}
 use Rattle.lumos_words.specs.Numbers.{are_distinct}
 use Rattle.lumos_words.specs.declared.request.BuildWords.{BuildWords}

@@ -1,5 +1,5 @@
 -- How the words behind the command word are understood.
-use Rattle.std.specs.Prelude.{◌≡◌, ⊤, ℕ, Bool, true, false, not, ◌==◌, ◌&&◌, List, [], ◌∷◌, ◌++◌, Option, Some, None, codes, if◌then◌else◌, find, option_map, option_and_then}
+use Rattle.std.specs.Prelude.{◌≡◌, ⊤, Bool, true, not, ◌==◌, ◌&&◌, List, [], ◌∷◌, ◌++◌, Option, Some, None, codes, if◌then◌else◌, find, option_map, option_and_then}
 use Rattle.std.specs.List.{list_any, before_first, after_first}
 use Rattle.std.specs.Str.{bytes_eq, IsUtf8}
 use Rattle.lumos_words.specs.Options.{Known, Text}

@@ -1,9 +1,8 @@
-use Rattle.std.proofs.Common.{◌≡◌, ◌<◌, ◌+◌, ◌∙◌, length, take, map, sym, ap, subst, List, ◌++◌, [], ◌∷◌}
+use Rattle.std.proofs.Common.{◌≡◌, ◌+◌, ◌∙◌, take, sym, ap, subst, ◌++◌, [], ◌∷◌}
 use Rattle.std.proofs.lemmas.List.{take_more, map-append}
 use Rattle.std.specs.List.{slice_index_or}
 use Rattle.std.specs.Str.{IsUtf8}
 use Rattle.std.specs.String.{string_bytes}
-use Rattle.lumos_words.specs.Options.{Text}
 use Rattle.lumos_words.specs.Words.{AreTexts}
 use Rattle.lumos_words.specs.Matches.{texts_of}
 use Rattle.lumos_words.proofs.ParseLemmas.{texts_more}

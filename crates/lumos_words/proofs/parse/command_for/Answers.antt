@@ -1,4 +1,4 @@
-use Rattle.std.proofs.Common.{◌≡◌, ◌∙◌, ap}
+use Rattle.std.proofs.Common.{◌∙◌, ap}
 use Rattle.std.specs.List.{slice_index_or}
 use Rattle.clap.specs.Simple.{App}
 use Rattle.lumos_words.specs.Matches.{known_of, with_option}

@@ -1,10 +1,6 @@
-use Rattle.std.proofs.Common.{◌≡◌, ◌<◌, ◌+◌, length, take, map, sym, subst, List, ◌++◌, [], ◌∷◌, ap, ap₂, ◌∙◌, false, true, rules, arith}
-use Rattle.std.proofs.lemmas.List.{length-map}
-use Rattle.std.specs.String.{string_bytes}
-use Rattle.std.specs.Prelude.{String}
-use Rattle.std.specs.declared.alloc.Global.{Global}
-use Rattle.clap.specs.Words.{app_of, fault_of, is_simple, is_simple_and_free, matches_of, rows_of, found_of, FailsBy, HasMatchesOf}
-use Rattle.clap.specs.Kinds.{HasKind, Kinds}
+use Rattle.std.proofs.Common.{◌≡◌, ◌<◌, length, sym, [], ap, ◌∙◌, true}
+use Rattle.clap.specs.Words.{app_of, fault_of, is_simple, is_simple_and_free, matches_of}
+use Rattle.clap.specs.Kinds.{HasKind}
 use Rattle.clap.specs.Simple.{App}
 use Rattle.lumos_words.specs.Options.{has_program, options_of}
 use Rattle.lumos_words.specs.Matches.{texts_of}

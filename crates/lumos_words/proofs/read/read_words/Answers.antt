@@ -1,8 +1,8 @@
-use Rattle.std.proofs.Common.{◌≡◌, ◌∙◌, ap, drop, subst, sym, Err, Result}
+use Rattle.std.proofs.Common.{◌∙◌, ap, drop, subst, sym, Err, Result}
 use Rattle.lumos_words.specs.Options.{command_of, has_program, options_of}
 use Rattle.lumos_words.specs.Words.{understood}
 use Rattle.lumos_words.specs.Matches.{texts_of}
-use Rattle.lumos_words.specs.Requests.{IsAnswer, request}
+use Rattle.lumos_words.specs.Requests.{IsAnswer}
 use Rattle.lumos_words.specs.declared.faults.UsageFault.{UsageFault}
 use Rattle.lumos_words.specs.declared.request.Request.{Request}
 use Rattle.lumos_words.proofs.Saying.{behind_first, matched, unmatched}

@@ -11,7 +11,7 @@ use clap::{Arg, ArgAction, ArgMatches, Command};
 use lumos_base::NoMemory;
 use std::alloc::{AllocError, Global};
 
-// The command with an option more, if it has it.
+// The command with an option more, where the command of the word has it. Its value is plain text, and a second use is refused.
 fn with_option<'a>(
     alloc: Global,
     word: CommandWord,
@@ -46,7 +46,7 @@ fn command_for<'a>(alloc: Global, word: CommandWord) -> Result<Command<'a>, Allo
     Ok(command)
 }
 
-// That each word is text.
+// Sees each word as text: a string is known to be UTF-8 once it is, and clap cuts words at characters.
 fn are_texts(words: &[String])
     ensures { AreTexts (texts_of words.now) }
 {

@@ -120,13 +120,15 @@ fn asked(alloc: Global, command: CommandWord, matches: &ArgMatches) -> Result<Re
     }
 }
 
-/// What the words ask for, which don't hold the program's own name. The first names the command: `run`, `build` or `replay`.
-/// Behind it stand, in any order, the command's options, `--name value` or `--name=value`, its flags, and the name of a
-/// program, where the command has one; behind a word `--` every word is such a name. Which option has which values, and what
-/// stands where it isn't given, is [`Request`]'s. An option of the command that the program doesn't use is read all the same.
+/// What the words ask for; they don't hold the program's own name. The first names the command: `run`, `build` or `replay`.
+/// Behind it stand, in any order and each at most once, the command's options, `--name value` or `--name=value`, its flags,
+/// and the name of a program, where the command has one. A value that is a word of its own doesn't begin with `-`, unless it
+/// is `-` alone; one behind the first `=` may be any text. Behind a word `--` every word is a name. Which values an option has,
+/// and what stands where it isn't given, [`Request`] and its parts say. An option that the program doesn't use is judged as
+/// any other. These rules are our own.
 ///
-/// `Usage` tells the first fault, in the order of [`UsageWhat`]. `NoMemory` is want of memory, and says nothing of the words:
-/// nothing was kept, so they may be read again.
+/// `Usage` tells the first fault, in the order of [`UsageWhat`](crate::UsageWhat). `NoMemory` is want of memory, and says
+/// nothing of the words: nothing was changed, and they may be read again.
 pub fn read_words(alloc: Global, words: &[String]) -> Result<Request, WordsFault>
     ensures answer { IsAnswer (request (texts_of words.now)) result }
     ensures fits { IfOk result RequestFits }

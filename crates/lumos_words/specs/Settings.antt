@@ -50,11 +50,6 @@ task_of command.Replay word = if_good (program_of word) (λ program. Ok (task.Re
 
 -- ---- one option
 
--- whether an answer is good
-abbrev pub result_done : {A : Type 0} → Result A UsageFault → Result (Unit {0}) UsageFault
-result_done (Ok x) = Ok tt
-result_done (Err why) = Err why
-
 -- the directory is `.` where none is given
 abbrev pub directory : Option Text → Text
 directory text = unwrap_or text (codes ".")
@@ -139,3 +134,8 @@ plan_of command say =
     if_good (sizes_of say) (λ sizes.
     if_good (ways_of say) (λ ways.
     Ok (record { task = task; sizes = sizes; ways = ways })))))
+
+-- whether an answer is good, for a step that keeps none
+abbrev pub result_done : {A : Type 0} → Result A UsageFault → Result (Unit {0}) UsageFault
+result_done (Ok x) = Ok tt
+result_done (Err why) = Err why

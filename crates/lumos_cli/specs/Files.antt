@@ -2,7 +2,7 @@
 use Rattle.std.specs.Prelude.{ℕ, List, ◌++◌, Option, codes, slice_index}
 use Rattle.lumos_depot.specs.MemoryDepot.{file_number}
 use Rattle.lumos_depot.specs.declared.depot.FileKind.{FileKind}
-use Rattle.lumos_top.specs.Outcome.{file_text}
+use Rattle.lumos_top.specs.Stops.{file_text}
 
 pub record FilesView : Type 0 where
   pub taken : List ℕ

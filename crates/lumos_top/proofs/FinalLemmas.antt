@@ -25,12 +25,12 @@ lines_are p edges n c s t j is = sym (cond-true (is_final s t j) _ _ (sym is))
 
 -- the values that are held are those of synchronous execution, of which a line each is written
 pub chunk_written : {G V S : Type 0} (model : G → Program V S) (r : Replayed G V S) (program : G) (cut : Cut) (t j first : ℕ) (xs : List V) (mid new : Option (List ℕ)) (result : Result (Unit {0}) Failed) →
-    r.program ≡ program → r.cut ≡ cut → first ≡ first_vertex cut.vertices (chunk_of cut) j → IsOfChunk r.cut.vertices (chunk_of r.cut) j (values (model r.program) r.edges t) xs →
+    model r.program ≡ model program → r.cut ≡ cut → first ≡ first_vertex cut.vertices (chunk_of cut) j → IsOfChunk r.cut.vertices (chunk_of r.cut) j (values (model r.program) r.edges t) xs →
     ((state : ℕ → V) → IsChunk state first xs → Writes mid new result (flat_map (λ k. value_line (first + k) ((model program).show (state (first + k)))) (range_with_len 0 (length xs)))) →
     Writes mid new result (chunk_values (model program) r.edges cut.vertices (chunk_of cut) t j)
 chunk_written model r program cut t j first xs mid new result same cut_is first_is held writes =
     let there = subst (λ (k : Cut). IsOfChunk k.vertices (chunk_of k) j (values (model r.program) r.edges t) xs) cut_is held in
-    let here = subst (λ g. IsOfChunk cut.vertices (chunk_of cut) j (values (model g) r.edges t) xs) same there in
+    let here = subst (λ q. IsOfChunk cut.vertices (chunk_of cut) j (values q r.edges t) xs) same there in
     let state = values (model program) r.edges t in
     let wrote = writes state (subst (λ (f : ℕ). IsChunk state f xs) (sym first_is) here.chunk) in
     let lines = ap (λ (f : ℕ). flat_map (λ (k : ℕ). value_line (f + k) ((model program).show (state (f + k)))) (range_with_len 0 (length xs))) first_is

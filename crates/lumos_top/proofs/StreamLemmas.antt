@@ -13,8 +13,8 @@ use Rattle.flight_core.specs.declared.schedule.ScheduleFault.{ScheduleFault}
 use Rattle.flight_core.specs.declared.schedule.ScheduleFault.TheVariants.{Bad, Ended, TooManyEvents, NoMemory}
 use Rattle.lumos_top.specs.Replays.{cut_stop, or_stop, schedule_stop, schedule_within}
 use Rattle.lumos_top.specs.Streaming.{IsBefore, IsFurther, StopsBy}
-use Rattle.lumos_top.specs.declared.status.Stop.{Stop}
-use Rattle.lumos_top.specs.declared.status.Stop.TheVariants as stop
+use Rattle.lumos_top.specs.declared.stream.StreamStop.{StreamStop}
+use Rattle.lumos_top.specs.declared.stream.StreamStop.TheVariants as stop
 
 -- a text that isn't too long, and one that is
 within_short : (most : ℕ) (text : List ℕ) → length text ≤ most → schedule_within most text ≡ or_stop schedule_stop (schedule text)
@@ -72,7 +72,7 @@ fault_by most seen more fault has short (inl e) =
 fault_within : (most : ℕ) (seen more : List ℕ) (fault : ScheduleFault) → ((behind : List ℕ) → HasFault (seen ++ behind) fault) → length seen ≤ most → schedule_within most (seen ++ more) ≡ Err (schedule_stop fault)
 fault_within most seen more fault has short = fault_by most seen more fault has short (cases_Bool (ltb most (length (seen ++ more))))
 
-pub stops_by : {A : Type 0} (r : Result A Stop) (fault : ScheduleFault) → r ≡ Err (schedule_stop fault) → StopsBy r (schedule_stop fault)
+pub stops_by : {A : Type 0} (r : Result A StreamStop) (fault : ScheduleFault) → r ≡ Err (schedule_stop fault) → StopsBy r (schedule_stop fault)
 stops_by r (Bad line) is = is
 stops_by r (Ended line) is = is
 stops_by r (TooManyEvents limit) is = is

@@ -3,20 +3,21 @@ use Rattle.std.proofs.Common.{◌≡◌, ◌≤◌, ℕ, ◌+◌, ◌-◌, List,
 use Rattle.std.specs.Prelude.{slice_range, unwrap_or}
 use Rattle.std.proofs.lemmas.List.{append-nil, append_assoc, drop-take, length-append}
 use Rattle.edge_text.specs.Reading.{reading}
+use Rattle.edge_text.specs.declared.fault.TextLimits.{TextLimits}
 use Rattle.flight_core.specs.ScheduleRead.{HasRead, ScheduleState}
 use Rattle.flight_core.specs.declared.event.Event.{Event}
 use Rattle.lumos_depot.specs.Streams.{Takes, before_told}
 use Rattle.lumos_top.specs.Listing.{IsAtEnd}
-use Rattle.lumos_top.specs.Replays.{replay_limits, schedule_within, streamed, streamed_behind, streamed_with}
+use Rattle.lumos_top.specs.Replays.{schedule_within, streamed, streamed_behind, streamed_with}
 use Rattle.lumos_top.specs.Streaming.{BehindReads, EndsAs, HasBegun, HasPart, HasStreamed, IsBefore, StopsBy, TakesPart, list_why}
 use Rattle.lumos_top.specs.declared.list.ListStop.{ListStop}
 use Rattle.lumos_top.specs.declared.list.ListStop.TheVariants as list
-use Rattle.lumos_top.specs.declared.status.Stop.{Stop}
-use Rattle.lumos_top.specs.declared.status.Stop.TheVariants as stop
 use Rattle.lumos_top.specs.declared.stream.Begun.{Begun}
 use Rattle.lumos_top.specs.declared.stream.Begun.TheVariants.{Behind, Whole}
 use Rattle.lumos_top.specs.declared.stream.Part.TheVariants.{Further, Begins}
 use Rattle.lumos_top.specs.declared.stream.Stream.{Stream}
+use Rattle.lumos_top.specs.declared.stream.StreamStop.{StreamStop}
+use Rattle.lumos_top.specs.declared.stream.StreamStop.TheVariants as stop
 use Rattle.lumos_top.proofs.Endings.{taken_all, takes_then}
 
 -- a read that gave nothing was at the end
@@ -36,7 +37,7 @@ whole_part seen piece reader old new count none takes end ends =
     let zero = no_bytes old new piece count none takes in
     record { part = []; takes = zero; ends = record { whole = ap (schedule_within 1099511627776) (append-nil seen) ∙ ends; end = at_none old new zero end }; counts = tt }
 
-pub end_part : (seen piece : List ℕ) (reader : ScheduleState) (old new : Option (List ℕ)) (count : ℕ) (why : Stop) → count ≡ 0 → Takes old new (take count piece) → ((xs : List ℕ) → old ≡ Some xs → xs ≡ []) → EndsAs seen reader.events (Err why) →
+pub end_part : (seen piece : List ℕ) (reader : ScheduleState) (old new : Option (List ℕ)) (count : ℕ) (why : StreamStop) → count ≡ 0 → Takes old new (take count piece) → ((xs : List ℕ) → old ≡ Some xs → xs ≡ []) → EndsAs seen reader.events (Err why) →
     HasPart seen piece reader old new (Err why)
 end_part seen piece reader old new count why none takes end ends =
     let zero = no_bytes old new piece count none takes in
@@ -51,7 +52,7 @@ behind_part seen piece reader old new first count inside takes before =
     let same : drop first (take count piece) ≡ slice_range piece first count = ap (λ (n : ℕ). drop first (take n piece)) e ∙ drop-take first (count - first) piece in
     record { part = take count piece; takes = takes; ends = subst (λ t. IsBefore (seen ++ take count piece) t reader.events) same before; counts = tt }
 
-pub failed_part : (seen piece : List ℕ) (reader : ScheduleState) (old new : Option (List ℕ)) (count : ℕ) (why : Stop) → Takes old new (take count piece) → TakesPart seen (take count piece) reader (Err why) → HasPart seen piece reader old new (Err why)
+pub failed_part : (seen piece : List ℕ) (reader : ScheduleState) (old new : Option (List ℕ)) (count : ℕ) (why : StreamStop) → Takes old new (take count piece) → TakesPart seen (take count piece) reader (Err why) → HasPart seen piece reader old new (Err why)
 failed_part seen piece reader old new count why takes stops = record { part = take count piece; takes = takes; ends = stops (unwrap_or new []); counts = tt }
 
 -- the bytes that were taken, and what is known of them
@@ -79,29 +80,23 @@ more_taken seen piece taken more reader old mid new takes is h =
 pub last_taken : (seen piece : List ℕ) (begun : Begun) (reader : ScheduleState) (old mid new : Option (List ℕ)) → Takes old mid seen → HasPart seen piece reader mid new (Ok (Begins begun)) → HasBegun piece reader.events old new (Ok begun)
 last_taken seen piece begun reader old mid new takes h = record { taken = seen ++ h.part; takes = takes_then old mid new seen h.part takes h.takes; ends = h.ends }
 
-pub failed_taken : (seen piece : List ℕ) (why : Stop) (reader : ScheduleState) (old mid new : Option (List ℕ)) → Takes old mid seen → HasPart seen piece reader mid new (Err why) → HasBegun piece reader.events old new (Err why)
+pub failed_taken : (seen piece : List ℕ) (why : StreamStop) (reader : ScheduleState) (old mid new : Option (List ℕ)) → Takes old mid seen → HasPart seen piece reader mid new (Err why) → HasBegun piece reader.events old new (Err why)
 failed_taken seen piece why reader old mid new takes h = record { taken = seen ++ h.part; takes = takes_then old mid new seen h.part takes h.takes; ends = h.ends }
 
 -- a schedule that stops a command stops it with the list behind it
-list_stops : (text : List ℕ) (why : Stop) → StopsBy (schedule_within 1099511627776 text) why → StopsBy (streamed 1099511627776 text) why
-list_stops text stop.Memory h = tt
-list_stops text stop.Read h = tt
-list_stops text stop.Depot h = h
-list_stops text stop.Write h = h
-list_stops text (stop.Damaged file place found) h = h
-list_stops text (stop.Usage fault) h = h
-list_stops text (stop.TooMany many) h = h
-list_stops text (stop.Illegal event why) h = h
-list_stops text (stop.Text fault) h = ap streamed_behind h
-list_stops text (stop.BadSchedule line) h = ap streamed_behind h
-list_stops text (stop.ScheduleEnded line) h = ap streamed_behind h
-list_stops text (stop.TooManyEvents limit) h = ap streamed_behind h
+list_stops : (limits : TextLimits) (text : List ℕ) (why : StreamStop) → StopsBy (schedule_within 1099511627776 text) why → StopsBy (streamed limits 1099511627776 text) why
+list_stops limits text stop.Memory h = tt
+list_stops limits text stop.Read h = tt
+list_stops limits text (stop.Text fault) h = ap (streamed_behind limits) h
+list_stops limits text (stop.BadSchedule line) h = ap (streamed_behind limits) h
+list_stops limits text (stop.ScheduleEnded line) h = ap (streamed_behind limits) h
+list_stops limits text (stop.TooManyEvents limit) h = ap (streamed_behind limits) h
 
-pub stream_stops : (piece : List ℕ) (events : List Event) (old new : Option (List ℕ)) (why : Stop) → HasBegun piece events old new (Err why) → HasStreamed old new (Err why)
-stream_stops piece events old new why h = record {
+pub stream_stops : (limits : TextLimits) (piece : List ℕ) (events : List Event) (old new : Option (List ℕ)) (why : StreamStop) → HasBegun piece events old new (Err why) → HasStreamed limits old new (Err why)
+stream_stops limits piece events old new why h = record {
   bytes = h.taken ++ unwrap_or new [];
   told = λ all told. taken_all old new h.taken all h.takes told;
-  reads = list_stops (h.taken ++ unwrap_or new []) why h.ends;
+  reads = list_stops limits (h.taken ++ unwrap_or new []) why h.ends;
 }
 
 -- what is told before bytes are taken is told after it
@@ -116,36 +111,36 @@ all_bytes taken behind bytes all old mid events before takes told is =
     ap (λ t. before.front ++ t) (told s.0 s.1) ∙ sym (append_assoc before.front behind s.0) ∙ ap (λ t. t ++ s.0) (sym before.split) ∙ s.2
 
 -- the list behind a schedule
-list_behind : (front bytes : List ℕ) (events : List Event) → ((more : List ℕ) → schedule_within 1099511627776 (front ++ more) ≡ Ok (record { events = events; edges = more })) → streamed 1099511627776 (front ++ bytes) ≡ streamed_with events (reading replay_limits bytes)
-list_behind front bytes events whole = ap streamed_behind (whole bytes)
+list_behind : (limits : TextLimits) (front bytes : List ℕ) (events : List Event) → ((more : List ℕ) → schedule_within 1099511627776 (front ++ more) ≡ Ok (record { events = events; edges = more })) → streamed limits 1099511627776 (front ++ bytes) ≡ streamed_with events (reading limits bytes)
+list_behind limits front bytes events whole = ap (streamed_behind limits) (whole bytes)
 
-pub stream_good : (piece : List ℕ) (begun : Begun) (stream : Stream) (old mid new : Option (List ℕ)) → HasBegun piece stream.schedule.events old mid (Ok begun) → BehindReads piece begun mid new (Ok stream.list) → HasStreamed old new (Ok stream)
-stream_good piece (Behind first end) stream old mid new h reads = record {
+pub stream_good : (limits : TextLimits) (piece : List ℕ) (begun : Begun) (stream : Stream) (old mid new : Option (List ℕ)) → HasBegun piece stream.schedule.events old mid (Ok begun) → BehindReads limits piece begun mid new (Ok stream.list) → HasStreamed limits old new (Ok stream)
+stream_good limits piece (Behind first end) stream old mid new h reads = record {
   bytes = h.ends.front ++ reads.bytes;
   told = λ all told. all_bytes h.taken (slice_range piece first end) reads.bytes all old mid stream.schedule.events h.ends h.takes reads.told told;
   reads = (
-    list_behind h.ends.front reads.bytes stream.schedule.events h.ends.whole ∙ ap (streamed_with stream.schedule.events) reads.reads.0,
+    list_behind limits h.ends.front reads.bytes stream.schedule.events h.ends.whole ∙ ap (streamed_with stream.schedule.events) reads.reads.0,
     λ all told. let s = still_told old mid h.taken all h.takes told in reads.reads.1 s.0 s.1,
   );
 }
-stream_good piece Whole stream old mid new h reads = record {
+stream_good limits piece Whole stream old mid new h reads = record {
   bytes = h.taken;
   told = λ all told. let s = still_told old mid h.taken all h.takes told in sym (append-nil h.taken) ∙ ap (λ t. h.taken ++ t) (sym (h.ends.end s.0 s.1)) ∙ s.2;
   reads = (
-    ap streamed_behind h.ends.whole ∙ ap (streamed_with stream.schedule.events) reads.1,
+    ap (streamed_behind limits) h.ends.whole ∙ ap (streamed_with stream.schedule.events) reads.1,
     λ all told. let s = still_told old mid h.taken all h.takes told in reads.0 ∙ s.1 ∙ ap Some (h.ends.end s.0 s.1),
   );
 }
 
 -- a list that isn't read
-pub stream_list : (piece : List ℕ) (begun : Begun) (events : List Event) (old mid new : Option (List ℕ)) (why : ListStop) → HasBegun piece events old mid (Ok begun) → BehindReads piece begun mid new (Err why) → HasStreamed old new (Err (list_why why))
-stream_list piece Whole events old mid new why h reads = absurd reads
-stream_list piece (Behind first end) events old mid new list.Memory h reads =
+pub stream_list : (limits : TextLimits) (piece : List ℕ) (begun : Begun) (events : List Event) (old mid new : Option (List ℕ)) (why : ListStop) → HasBegun piece events old mid (Ok begun) → BehindReads limits piece begun mid new (Err why) → HasStreamed limits old new (Err (list_why why))
+stream_list limits piece Whole events old mid new why h reads = absurd reads
+stream_list limits piece (Behind first end) events old mid new list.Memory h reads =
     record { bytes = h.ends.front ++ reads.bytes; told = λ all told. all_bytes h.taken (slice_range piece first end) reads.bytes all old mid events h.ends h.takes reads.told told; reads = tt }
-stream_list piece (Behind first end) events old mid new list.Read h reads =
+stream_list limits piece (Behind first end) events old mid new list.Read h reads =
     record { bytes = h.ends.front ++ reads.bytes; told = λ all told. all_bytes h.taken (slice_range piece first end) reads.bytes all old mid events h.ends h.takes reads.told told; reads = tt }
-stream_list piece (Behind first end) events old mid new (list.Text fault) h reads = record {
+stream_list limits piece (Behind first end) events old mid new (list.Text fault) h reads = record {
   bytes = h.ends.front ++ reads.bytes;
   told = λ all told. all_bytes h.taken (slice_range piece first end) reads.bytes all old mid events h.ends h.takes reads.told told;
-  reads = list_behind h.ends.front reads.bytes events h.ends.whole ∙ ap (streamed_with events) reads.reads;
+  reads = list_behind limits h.ends.front reads.bytes events h.ends.whole ∙ ap (streamed_with events) reads.reads;
 }

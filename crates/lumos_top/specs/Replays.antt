@@ -1,5 +1,5 @@
 -- What a schedule and the list behind it come to: the events are done in turn, and then the final values are shown.
-use Rattle.std.specs.Prelude.{ℕ, suc, ◌+◌, false, List, [], ◌∷◌, ◌++◌, codes, flat_map, length, take, nat_lt, Option, Some, None, Result, Ok, Err, if◌then◌else◌}
+use Rattle.std.specs.Prelude.{ℕ, suc, ◌+◌, Bool, List, [], ◌∷◌, ◌++◌, codes, flat_map, length, take, nat_lt, Option, Some, None, Result, Ok, Err, if◌then◌else◌}
 use Rattle.std.specs.List.{range_with_len}
 use Rattle.std.specs.Fmt.{decimal}
 use Rattle.lumos_base.specs.declared.records.Edge.{Edge}
@@ -18,33 +18,33 @@ use Rattle.flight_core.specs.declared.schedule.ScheduleFault.{ScheduleFault}
 use Rattle.flight_core.specs.declared.schedule.ScheduleFault.TheVariants.{Bad, Ended, TooManyEvents, NoMemory}
 use Rattle.grid_format.specs.Grid.{grid_head}
 use Rattle.lumos_report.specs.Report.{head_line, value_line}
-use Rattle.lumos_top.specs.declared.status.Stop.{Stop}
-use Rattle.lumos_top.specs.declared.status.Stop.TheVariants as stop
+use Rattle.lumos_top.specs.declared.stream.StreamStop.{StreamStop}
+use Rattle.lumos_top.specs.declared.stream.StreamStop.TheVariants as stop
 
 -- how the list behind a schedule is read
-abbrev pub replay_limits : TextLimits
-replay_limits = record { max_vertex = 4095; vertices = None; max_edges = 65536; max_bytes = 1099511627776; both = false }
+abbrev pub replay_limits : Option ℕ → Bool → TextLimits
+replay_limits vertices both = record { max_vertex = 4095; vertices = vertices; max_edges = 65536; max_bytes = 1099511627776; both = both }
 
--- why a command stops at a schedule with a fault
-abbrev pub schedule_stop : ScheduleFault → Stop
+-- why a schedule with a fault isn't read
+abbrev pub schedule_stop : ScheduleFault → StreamStop
 schedule_stop (Bad line) = stop.BadSchedule line
 schedule_stop (Ended line) = stop.ScheduleEnded line
 schedule_stop (TooManyEvents limit) = stop.TooManyEvents limit
 schedule_stop NoMemory = stop.Memory
 
 -- and at one that is cut after so many bytes: where it hasn't ended by then, it is too long
-abbrev pub cut_stop : ℕ → ScheduleFault → Stop
+abbrev pub cut_stop : ℕ → ScheduleFault → StreamStop
 cut_stop most (Bad line) = stop.BadSchedule line
 cut_stop most (Ended line) = stop.Text (InputTooLong most)
 cut_stop most (TooManyEvents limit) = stop.TooManyEvents limit
 cut_stop most NoMemory = stop.Memory
 
-abbrev pub or_stop : (ScheduleFault → Stop) → Result Schedule ScheduleFault → Result Schedule Stop
+abbrev pub or_stop : (ScheduleFault → StreamStop) → Result Schedule ScheduleFault → Result Schedule StreamStop
 or_stop why (Ok schedule) = Ok schedule
 or_stop why (Err fault) = Err (why fault)
 
 -- The schedule of a text and the bytes behind it, where so many bytes are the most that a schedule has, or its first fault.
-abbrev pub schedule_within : ℕ → List ℕ → Result Schedule Stop
+abbrev pub schedule_within : ℕ → List ℕ → Result Schedule StreamStop
 schedule_within most text =
     if nat_lt most (length text)
     then or_stop (cut_stop most) (schedule_with text (read_lines 0 [] (decided_lines (take most text))))
@@ -55,17 +55,17 @@ pub record Streamed : Type 0 where
   pub events : List Event
   pub list : Listed
 
-abbrev pub streamed_with : List Event → Result Listed TextFault → Result Streamed Stop
+abbrev pub streamed_with : List Event → Result Listed TextFault → Result Streamed StreamStop
 streamed_with events (Ok list) = Ok (record { events = events; list = list })
 streamed_with events (Err fault) = Err (stop.Text fault)
 
-abbrev pub streamed_behind : Result Schedule Stop → Result Streamed Stop
-streamed_behind (Ok schedule) = streamed_with schedule.events (reading replay_limits schedule.edges)
-streamed_behind (Err why) = Err why
+abbrev pub streamed_behind : TextLimits → Result Schedule StreamStop → Result Streamed StreamStop
+streamed_behind limits (Ok schedule) = streamed_with schedule.events (reading limits schedule.edges)
+streamed_behind limits (Err why) = Err why
 
--- the events of a text and the list behind them, or the first fault
-abbrev pub streamed : ℕ → List ℕ → Result Streamed Stop
-streamed most text = streamed_behind (schedule_within most text)
+-- the events of a text and the list behind them, which is read within limits, or the first fault
+abbrev pub streamed : TextLimits → ℕ → List ℕ → Result Streamed StreamStop
+streamed limits most text = streamed_behind limits (schedule_within most text)
 
 -- an event that is refused, by its number from 1, and why
 pub record Refused : Type 0 where
@@ -107,8 +107,8 @@ module _ {V S : Type 0} (p : Program V S) (edges : List Edge) (n c : ℕ) where
   final_lines s parts shown = flat_map (parts_lines s parts) (range_with_len 0 shown)
 
 -- a text, unless an event is refused
-abbrev pub unless_refused : Option Refused → List ℕ → Result (List ℕ) Stop
-unless_refused (Some refused) text = Err (stop.Illegal refused.event refused.why)
+abbrev pub unless_refused : Option Refused → List ℕ → Result (List ℕ) Refused
+unless_refused (Some refused) text = Err refused
 unless_refused None text = Ok text
 
 module _ {V S : Type 0} (p : Program V S) (edges : List Edge) (n parts : ℕ) where
@@ -126,5 +126,5 @@ module _ {V S : Type 0} (p : Program V S) (edges : List Edge) (n parts : ℕ) wh
       head_line name (grid_head edges n parts) ++ (final_lines p edges n (chunk_size n parts) (after_events events) parts shown ++ events_line (length events))
 
   -- the same, unless an event is refused: then the first that is
-  abbrev pub replayed : List ℕ → ℕ → List Event → Result (List ℕ) Stop
+  abbrev pub replayed : List ℕ → ℕ → List Event → Result (List ℕ) Refused
   replayed name shown events = unless_refused (first_refused p edges n (chunk_size n parts) parts 0 before_events events) (replay_report name shown events)

@@ -76,7 +76,7 @@ fn write_final<G: VertexProgram, O: Sink>(
     time: u32,
     column: u32,
 ) -> Result<(), Failed>
-    requires program { replay.now.program ≡ program.now }
+    requires program { G.model replay.now.program ≡ G.model program.now }
     requires parts { replay.now.cut ≡ parts.now }
     requires below { column < parts.now.parts }
     ensures bytes { Writes (O.written out.old) (O.written out.new) result
@@ -102,7 +102,7 @@ fn write_parts<G: VertexProgram, O: Sink>(
     parts: &Parts,
     time: u32,
 ) -> Result<(), Failed>
-    requires program { replay.now.program ≡ program.now }
+    requires program { G.model replay.now.program ≡ G.model program.now }
     requires parts { replay.now.cut ≡ parts.now }
     ensures bytes { Writes (O.written out.old) (O.written out.new) result
         (parts_lines (G.model program.now) replay.now.edges parts.now.vertices (chunk_of parts.now) replay.now.state parts.now.parts time) }
@@ -125,7 +125,7 @@ fn write_times<G: VertexProgram, O: Sink>(
     parts: &Parts,
     shown: u32,
 ) -> Result<(), Failed>
-    requires program { replay.now.program ≡ program.now }
+    requires program { G.model replay.now.program ≡ G.model program.now }
     requires parts { replay.now.cut ≡ parts.now }
     ensures bytes { Writes (O.written out.old) (O.written out.new) result
         (final_lines (G.model program.now) replay.now.edges parts.now.vertices (chunk_of parts.now) replay.now.state parts.now.parts shown) }
@@ -149,7 +149,7 @@ fn write_body<G: VertexProgram, O: Sink>(
     shown: u32,
     events: u64,
 ) -> Result<(), Failed>
-    requires program { replay.now.program ≡ program.now }
+    requires program { G.model replay.now.program ≡ G.model program.now }
     requires parts { replay.now.cut ≡ parts.now }
     ensures bytes { Writes (O.written out.old) (O.written out.new) result
         (final_lines (G.model program.now) replay.now.edges parts.now.vertices (chunk_of parts.now) replay.now.state parts.now.parts shown ++ events_line events) }
@@ -174,7 +174,7 @@ pub fn write_replay<G: VertexProgram, O: Sink>(
     edges: u64,
     events: u64,
 ) -> Result<(), Failed>
-    requires program { replay.now.program ≡ program.now }
+    requires program { G.model replay.now.program ≡ G.model program.now }
     requires parts { replay.now.cut ≡ parts.now }
     ensures bytes { Writes (O.written out.old) (O.written out.new) result
         (head_line (G.name_text program.now) (record { version = 1; parts = parts.now.parts; vertices = parts.now.vertices; edges = edges })

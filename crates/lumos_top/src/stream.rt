@@ -3,15 +3,26 @@ ghost use Rattle.std.specs.Prelude.{◌≡◌, ◌≤◌, ◌<◌, ◌+◌, ℕ,
 ghost use Rattle.lumos_depot.specs.Causes.{Rose};
 ghost use Rattle.flight_core.specs.ScheduleRead.{HasRead};
 ghost use Rattle.lumos_top.specs.Graph.{IsGraph};
-ghost use Rattle.lumos_top.specs.Replays.{replay_limits, schedule_stop};
+ghost use Rattle.lumos_top.specs.Building.{TextFits};
+ghost use Rattle.lumos_top.specs.Replays.{schedule_stop};
 ghost use Rattle.lumos_top.specs.Streaming.{BehindReads, EndsAs, GoesOn, HasBegun, HasPart, HasStreamed, LiesIn, TakesPart, list_why};
 
 use crate::list::{EdgeList, ListStop, read_list_behind};
-use crate::status::Stop;
 use edge_text::{TextFault, TextLimits};
 use flight_core::{ScheduleFault, ScheduleReader};
 use lumos_depot::{Failed, Source};
 use std::alloc::Global;
+
+/// Why events and their list aren't read: want of memory, a fault of the source, or one of the text.
+#[derive(Clone, Copy, Debug, PartialEq, Eq, Drop)]
+pub enum StreamStop {
+    Memory,
+    Read,
+    Text(TextFault),
+    BadSchedule { line: u64 },
+    ScheduleEnded { line: u64 },
+    TooManyEvents { limit: u64 },
+}
 
 /// Events, and the list behind them.
 #[derive(Drop)]
@@ -38,36 +49,23 @@ const PIECE: usize = 4096;
 // How many bytes a schedule has at most.
 const MOST_BYTES: u64 = 1099511627776;
 
-// How the list behind a schedule is read.
-fn list_limits() -> TextLimits
-    ensures { result ≡ replay_limits }
-{
-    TextLimits {
-        max_vertex: 4095,
-        vertices: None,
-        max_edges: 65536,
-        max_bytes: 1099511627776,
-        both: false,
-    }
-}
-
-// Why a command stops at a faulty schedule.
-fn schedule_stop(fault: ScheduleFault) -> Stop
+// Why a faulty schedule isn't read.
+fn schedule_stop(fault: ScheduleFault) -> StreamStop
     ensures value { result ≡ schedule_stop fault }
-    ensures inside { result ≡ Stop.Read → ⊥ }
+    ensures inside { result ≡ StreamStop.Read → ⊥ }
 {
     match fault {
-        ScheduleFault::Bad { line } => Stop::BadSchedule { line },
-        ScheduleFault::Ended { line } => Stop::ScheduleEnded { line },
-        ScheduleFault::TooManyEvents { limit } => Stop::TooManyEvents { limit },
-        ScheduleFault::NoMemory => Stop::Memory,
+        ScheduleFault::Bad { line } => StreamStop::BadSchedule { line },
+        ScheduleFault::Ended { line } => StreamStop::ScheduleEnded { line },
+        ScheduleFault::TooManyEvents { limit } => StreamStop::TooManyEvents { limit },
+        ScheduleFault::NoMemory => StreamStop::Memory,
     }
 }
 
 // Ends a schedule with the input.
-fn end_schedule(schedule: &mut ScheduleReader) -> Result<(), Stop>
+fn end_schedule(schedule: &mut ScheduleReader) -> Result<(), StreamStop>
     ensures reads { (seen : List ℕ) → HasRead seen schedule.old → length seen ≤ 1099511627776 → EndsAs seen schedule.new.events result }
-    ensures inside { result ≡ Err Stop.Read → ⊥ }
+    ensures inside { result ≡ Err StreamStop.Read → ⊥ }
 {
     match schedule.finish() {
         Ok(()) => Ok(()),
@@ -76,11 +74,15 @@ fn end_schedule(schedule: &mut ScheduleReader) -> Result<(), Stop>
 }
 
 // Reads a part of a schedule behind so many bytes of it, and how many of its bytes the schedule has, if it ends in them.
-fn take_part(schedule: &mut ScheduleReader, part: &[u8], taken: u64) -> Result<Option<usize>, Stop>
+fn take_part(
+    schedule: &mut ScheduleReader,
+    part: &[u8],
+    taken: u64,
+) -> Result<Option<usize>, StreamStop>
     requires { taken ≤ 1099511627776 }
     ensures reads { (seen : List ℕ) → HasRead seen schedule.old → length seen ≡ taken → TakesPart seen part.now schedule.new result }
     ensures within { IfOk result (λ used. IfSome used (λ n. n ≤ length part.now)) }
-    ensures inside { result ≡ Err Stop.Read → ⊥ }
+    ensures inside { result ≡ Err StreamStop.Read → ⊥ }
     ensures short { IfOk result (λ used. IfNone used (taken + length part.now ≤ 1099511627776)) }
 {
     let counted = (MOST_BYTES - taken).min(part.len() as u64) as usize;
@@ -90,7 +92,7 @@ fn take_part(schedule: &mut ScheduleReader, part: &[u8], taken: u64) -> Result<O
                 return Ok(Some(used));
             }
             if counted < part.len() {
-                return Err(Stop::Text(TextFault::InputTooLong { limit: MOST_BYTES }));
+                return Err(StreamStop::Text(TextFault::InputTooLong { limit: MOST_BYTES }));
             }
             Ok(None)
         }
@@ -104,7 +106,7 @@ fn read_part<I: Source>(
     schedule: &mut ScheduleReader,
     piece: &mut [u8],
     taken: u64,
-) -> Result<Part, Stop>
+) -> Result<Part, StreamStop>
     requires some { 0 < length piece.old }
     requires short { taken ≤ 1099511627776 }
     ensures reads { (seen : List ℕ) → HasRead seen schedule.old → length seen ≡ taken
@@ -112,10 +114,10 @@ fn read_part<I: Source>(
     ensures len { length piece.new ≡ length piece.old }
     ensures on { GoesOn taken (length piece.new) result }
     ensures later { I.faults input.old ≤ I.faults input.new }
-    ensures read { result ≡ Err Stop.Read → Rose (I.faults input.old) (I.faults input.new) }
+    ensures read { result ≡ Err StreamStop.Read → Rose (I.faults input.old) (I.faults input.new) }
 {
     let Ok(count) = input.read(piece) else {
-        return Err(Stop::Read);
+        return Err(StreamStop::Read);
     };
     if count == 0 {
         return match end_schedule(schedule) {
@@ -137,14 +139,14 @@ fn read_schedule<I: Source>(
     input: &mut I,
     schedule: &mut ScheduleReader,
     piece: &mut [u8],
-) -> Result<Begun, Stop>
+) -> Result<Begun, StreamStop>
     requires some { 0 < length piece.old }
     requires read { HasRead [] schedule.old }
     ensures begun { HasBegun piece.new schedule.new.events (I.left input.old) (I.left input.new) result }
     ensures len { length piece.new ≡ length piece.old }
     ensures lies { IfOk result (LiesIn (length piece.new)) }
     ensures later { I.faults input.old ≤ I.faults input.new }
-    ensures read { result ≡ Err Stop.Read → Rose (I.faults input.old) (I.faults input.new) }
+    ensures read { result ≡ Err StreamStop.Read → Rose (I.faults input.old) (I.faults input.new) }
 {
     let mut taken: u64 = 0;
     while taken <= MOST_BYTES {
@@ -162,48 +164,55 @@ fn read_schedule<I: Source>(
 // Reads the list behind a schedule.
 fn read_behind<I: Source>(
     alloc: Global,
+    limits: TextLimits,
     piece: &[u8],
     begun: Begun,
     input: &mut I,
 ) -> Result<EdgeList, ListStop>
-    requires { LiesIn (length piece.now) begun }
+    requires limits { TextFits limits }
+    requires inside { LiesIn (length piece.now) begun }
     ensures graph { IfOk result (λ list. IsGraph list.vertices list.edges.items) }
-    ensures list { BehindReads piece.now begun (I.left input.old) (I.left input.new) result }
+    ensures list { BehindReads limits piece.now begun (I.left input.old) (I.left input.new) result }
     ensures later { I.faults input.old ≤ I.faults input.new }
     ensures read { result ≡ Err ListStop.Read → Rose (I.faults input.old) (I.faults input.new) }
 {
     match begun {
         Begun::Behind { first, end } => {
-            read_list_behind(alloc, list_limits(), &piece[first..end], input)
+            read_list_behind(alloc, limits, &piece[first..end], input)
         }
         Begun::Whole => Ok(EdgeList {
             edges: Vec::new(alloc),
-            vertices: 0,
+            vertices: limits.vertices.unwrap_or(0),
         }),
     }
 }
 
-// Why a command stops where its list isn't read.
-fn list_stop(stop: ListStop) -> Stop
+// Why events and their list aren't read where the list isn't.
+fn list_stop(stop: ListStop) -> StreamStop
     ensures value { result ≡ list_why stop }
-    ensures read { result ≡ Stop.Read → stop ≡ ListStop.Read }
+    ensures read { result ≡ StreamStop.Read → stop ≡ ListStop.Read }
 {
     match stop {
-        ListStop::Memory => Stop::Memory,
-        ListStop::Read => Stop::Read,
-        ListStop::Text(fault) => Stop::Text(fault),
+        ListStop::Memory => StreamStop::Memory,
+        ListStop::Read => StreamStop::Read,
+        ListStop::Text(fault) => StreamStop::Text(fault),
     }
 }
 
-/// Reads the events of a source, up to the line that ends them, and the list behind them.
+/// Reads the events of a source, up to the line that ends them, and the list behind them within these limits.
 ///
-/// It stops by `Read` only where the source's faults rose, by `BadSchedule`, `ScheduleEnded`, `TooManyEvents` and `Text`
-/// exactly where the text has that fault, and by `Memory` for no cause of its own.
-pub fn read_stream<I: Source>(alloc: Global, input: &mut I) -> Result<Stream, Stop>
+/// `Read` comes only where the source's faults rose, the faults of the text exactly where it has them, and `Memory` has no
+/// cause of its own.
+pub fn read_stream<I: Source>(
+    alloc: Global,
+    limits: TextLimits,
+    input: &mut I,
+) -> Result<Stream, StreamStop>
+    requires { TextFits limits }
     ensures graph { IfOk result (λ stream. IsGraph stream.list.vertices stream.list.edges.items) }
-    ensures streamed { HasStreamed (I.left input.old) (I.left input.new) result }
+    ensures streamed { HasStreamed limits (I.left input.old) (I.left input.new) result }
     ensures later { I.faults input.old ≤ I.faults input.new }
-    ensures read { result ≡ Err Stop.Read → Rose (I.faults input.old) (I.faults input.new) }
+    ensures read { result ≡ Err StreamStop.Read → Rose (I.faults input.old) (I.faults input.new) }
 {
     let mut piece = [0; PIECE];
     let mut schedule = ScheduleReader::new(alloc);
@@ -211,7 +220,7 @@ pub fn read_stream<I: Source>(alloc: Global, input: &mut I) -> Result<Stream, St
         Ok(begun) => begun,
         Err(stop) => return Err(stop),
     };
-    match read_behind(alloc, &piece, begun, input) {
+    match read_behind(alloc, limits, &piece, begun, input) {
         Ok(list) => Ok(Stream { schedule, list }),
         Err(stop) => Err(list_stop(stop)),
     }

@@ -57,7 +57,7 @@ and_false true = refl
 and_false false = refl
 
 -- a vertex that stood before stands twice
-repeats : (before : List SeedWord) (seed : SeedWord) (more : List SeedWord) → has_vertex seed.vertex before ≡ true → are_distinct (before ++ seed ∷ more) ≡ false
+pub repeats : (before : List SeedWord) (seed : SeedWord) (more : List SeedWord) → has_vertex seed.vertex before ≡ true → are_distinct (before ++ seed ∷ more) ≡ false
 repeats [] seed more h = cc
 repeats (b ∷ before) seed more h = go (b.vertex == seed.vertex) refl (repeats before seed more)
   where

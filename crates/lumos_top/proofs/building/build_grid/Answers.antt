@@ -1,24 +1,34 @@
-use Rattle.std.proofs.Common.{refl, subst, ◌∙◌}
+use Rattle.std.proofs.Common.{Ok, refl, subst, ◌∙◌}
 use Rattle.lumos_depot.specs.Streams.{Writes}
-use Rattle.lumos_top.proofs.GridEnds.{built_cut, built_done, built_takes, no_write, unbuilt_done, written_whole}
+use Rattle.grid_build.specs.Built.{HasBuilt}
+use Rattle.lumos_top.specs.declared.status.Completed.TheVariants.{Build}
+use Rattle.lumos_top.proofs.Causes.{done_causes, unbuilt_causes, unwritten_causes}
+use Rattle.lumos_top.proofs.GridEnds.{WasBuilt, builds_within, built_cut, built_done, kept_by, unbuilt_done, written_whole}
 use Rattle.lumos_top.proofs.building.build_grid.Goals as goal
 
-pub returns-in-Err-clause-done : goal.returns-in-Err-clause-done
-returns-in-Err-clause-done g c = unbuilt_done _ c.args.text c.args.parts _ _ _ _ _ _ _ c.in-Err.stop (c.in-Err.ensures.built (g.O.Sink.written c.args.out.now))
+pub build_stop-requires : goal.build_stop-requires
+build_stop-requires g c = λ need given is. builds_within c.args.text _ _ _ _ _ c.in-Err.fault need given c.in-Err.ensures.built is
 
-pub returns-in-Err-clause-write : goal.returns-in-Err-clause-write
-returns-in-Err-clause-write g c = λ is. absurd (no_write c.args.text c.args.parts _ c.build_files.result c.in-Err.stop c.in-Err.is (c.build_files.ensures.built (g.O.Sink.written c.args.out.now)) is)
+pub returns-in-Err-clause-done : goal.returns-in-Err-clause-done
+returns-in-Err-clause-done g c = unbuilt_done _ c.args.text _ _ c.in-Err.fault _ c.build_stop.ensures c.in-Err.ensures.built c.in-Err.ensures.memory refl
 
 pub returns-in-Ok-write_all-clause-done : goal.returns-in-Ok-write_all-clause-done
 returns-in-Ok-write_all-clause-done g c =
     let wrote = subst (Writes _ _ c.write_all.result) (c.bytes.ensures.text ∙ c.grid_text.ensures) c.write_all.ensures.bytes in
-    built_done c.args.text c.args.parts _ _ _ _ _ _ _ _ c.in-Ok.info (c.in-Ok.ensures.built (g.O.Sink.written c.args.out.now)) (written_whole _ _ c.write_all.result _ (rw c.in-Ok-write_all.is refl) wrote)
+    let built : WasBuilt _ _ _ _ _ _ _ _ _ = record { built = subst (λ p. HasBuilt c.args.text p (g.I.Source.left c.args.input.now) (g.I.Source.left c.build_files.new.input) (g.D.Depot.holds c.args.depot.now) (g.D.Depot.holds c.build_files.new.depot) (Ok c.in-Ok.info)) c.few_parts.ensures c.in-Ok.ensures.built; all = g.D.Depot.tells_all c.build_files.new.depot; copied = c.in-Ok.ensures.copied; unread = c.build_files.ensures.unread } in
+    built_done c.args.text c.args.grid.now _ c.in-Ok.info built (kept_by g.D.Depot.holds g.D.Depot.taken g.D.Depot.stored _ _ c.build_files.ensures.leaves) (written_whole _ _ c.write_all.result _ (rw c.in-Ok-write_all.is refl) wrote)
 
 pub returns-in-Err-write_all-clause-done : goal.returns-in-Err-write_all-clause-done
 returns-in-Err-write_all-clause-done g c =
     let wrote = subst (Writes _ _ c.write_all.result) (c.bytes.ensures.text ∙ c.grid_text.ensures) c.write_all.ensures.bytes in
-    built_cut c.args.text c.args.parts _ _ _ _ _ _ _ _ c.in-Ok.info (c.in-Ok.ensures.built (g.O.Sink.written c.args.out.now)) wrote.front
+    let built : WasBuilt _ _ _ _ _ _ _ _ _ = record { built = subst (λ p. HasBuilt c.args.text p (g.I.Source.left c.args.input.now) (g.I.Source.left c.build_files.new.input) (g.D.Depot.holds c.args.depot.now) (g.D.Depot.holds c.build_files.new.depot) (Ok c.in-Ok.info)) c.few_parts.ensures c.in-Ok.ensures.built; all = g.D.Depot.tells_all c.build_files.new.depot; copied = c.in-Ok.ensures.copied; unread = c.build_files.ensures.unread } in
+    built_cut c.args.text c.args.grid.now _ c.in-Ok.info built wrote.front
 
-pub returns-in-Ok-write_all-clause-takes : goal.returns-in-Ok-write_all-clause-takes
-returns-in-Ok-write_all-clause-takes g c = λ bytes told.
-    built_takes c.args.text c.args.parts _ _ _ _ _ _ _ c.in-Ok.info (g.D.Depot.taken c.args.depot.now) (g.D.Depot.taken c.build_files.new.depot) bytes (g.D.Depot.tells_all c.build_files.new.depot) (c.in-Ok.ensures.built (g.O.Sink.written c.args.out.now)) told c.in-Ok.ensures.copied c.build_files.ensures.unread
+pub returns-in-Err-clause-causes : goal.returns-in-Err-clause-causes
+returns-in-Err-clause-causes g c = unbuilt_causes g.I.Source.faults g.D.Depot.faults g.O.Sink.faults _ _ _ _ _ c.in-Err.fault _ c.build_stop.ensures c.build_files.ensures.input_later c.build_files.ensures.depot_later c.in-Err.ensures.read c.in-Err.ensures.depot
+
+pub returns-in-Ok-write_all-clause-causes : goal.returns-in-Ok-write_all-clause-causes
+returns-in-Ok-write_all-clause-causes g c = done_causes g.I.Source.faults g.D.Depot.faults g.O.Sink.faults _ _ _ _ _ _ Build c.build_files.ensures.input_later c.build_files.ensures.depot_later c.write_all.ensures.cause.later
+
+pub returns-in-Err-write_all-clause-causes : goal.returns-in-Err-write_all-clause-causes
+returns-in-Err-write_all-clause-causes g c = unwritten_causes g.I.Source.faults g.D.Depot.faults g.O.Sink.faults _ _ _ _ _ _ c.build_files.ensures.input_later c.build_files.ensures.depot_later c.write_all.ensures.cause.later c.in-Err-write_all.ensures.cause.failed

@@ -1,5 +1,5 @@
 use Rattle.std.specs.Prelude.{IfErr, IfOk}
-use Rattle.std.proofs.Common.{Ok, Err, sym, subst}
+use Rattle.std.proofs.Common.{Ok, Err, sym, subst, ◌∙◌}
 use Rattle.lumos_depot.specs.declared.depot.FileKind.TheVariants.{Meta, Primary, Secondary}
 use Rattle.lumos_law.specs.Sync.{ending}
 use Rattle.lumos_depot.specs.Steps.{RoseBy}
@@ -7,9 +7,10 @@ use Rattle.early_engine.specs.Making.{IsOver}
 use Rattle.early_engine.specs.Passes.{primary_taken, secondary_taken}
 use Rattle.early_engine.specs.Report.{report}
 use Rattle.early_engine.specs.Runs.{RunComes}
-use Rattle.lumos_top.specs.Outcome.{ran_by}
-use Rattle.lumos_top.specs.Running.{EndShown, HasReport, IfDamaged, IsOverAt, IsWrongIn, Leaves, RunTakes}
-use Rattle.lumos_top.proofs.GridEnds.{damaged_open, damaged_stop, leaves_then, open_leaves, run_leaves_files, opens_within, reported_at, run_told, run_took, shown_end, shown_stop, shows_at, takes_stop, unopened}
+use Rattle.lumos_top.specs.Answers.{options_of, ran_by}
+use Rattle.lumos_top.specs.Running.{DamageShown, EndShown, HasReport, IsOverAt, IsWrongIn, Leaves, RunTakes}
+use Rattle.lumos_top.proofs.EngineEnds.{damaged_open, damaged_stop, opens_within, reported_at, run_told, run_took, shown_end, shown_stop, shows_at, takes_stop, unopened}
+use Rattle.lumos_top.proofs.GridEnds.{leaves_then, open_leaves, run_leaves_files}
 use Rattle.lumos_top.proofs.running.run_program.Goals as goal
 
 pub returns-in-Ok-run-clause-leaves : goal.returns-in-Ok-run-clause-leaves
@@ -17,9 +18,9 @@ returns-in-Ok-run-clause-leaves g c = λ list parts of.
     let model = g.G.VertexProgram.model in
     let name = g.G.VertexProgram.name_text in
     let e = c.in-Ok.engine in
-    let ran = ran_by (model c.args.program) (name c.args.program) parts c.args.iterations c.args.mode list in
+    let ran = ran_by (model c.args.program) (name c.args.program) parts c.args.iterate list in
     subst (λ end. Leaves ran (g.D.Depot.holds c.args.depot.now) (g.O.Sink.written c.args.out.now) (g.O.Sink.written c.run.new.out) (Ok end)) (sym c.ended_by.ensures)
-    (run_told model name c.args.program list parts _ c.args.info _ (g.D.Depot.holds c.open.new.depot) e _ _ (Ok c.in-Ok-run.ending) c.in-Ok.ensures.program c.in-Ok.ensures.options c.in-Ok.ensures.info of
+    (run_told model name c.args.program list parts (options_of c.args.iterate) c.args.info _ (g.D.Depot.holds c.open.new.depot) e _ _ (Ok c.in-Ok-run.ending) c.in-Ok.ensures.program (c.in-Ok.ensures.options ∙ c.options_of.ensures) c.in-Ok.ensures.info of
     c.in-Ok.ensures.told
     (λ edges opened. subst (RunComes (ending (model e.program) edges e.info.vertices e.options.iterations) (report (model e.program) (name e.program) e.options.show e.options.mode edges e.info.vertices e.info.parts e.options.iterations) _ _) c.in-Ok-run.is (c.run.ensures.told edges opened)))
 
@@ -28,9 +29,9 @@ returns-in-Err-run-clause-leaves g c = λ list parts of.
     let model = g.G.VertexProgram.model in
     let name = g.G.VertexProgram.name_text in
     let e = c.in-Ok.engine in
-    let ran = ran_by (model c.args.program) (name c.args.program) parts c.args.iterations c.args.mode list in
+    let ran = ran_by (model c.args.program) (name c.args.program) parts c.args.iterate list in
     subst (Leaves ran (g.D.Depot.holds c.args.depot.now) (g.O.Sink.written c.args.out.now) (g.O.Sink.written c.run.new.out)) (sym c.run_stop.ensures)
-    (run_told model name c.args.program list parts _ c.args.info _ (g.D.Depot.holds c.open.new.depot) e _ _ (Err c.in-Err-run.fault) c.in-Ok.ensures.program c.in-Ok.ensures.options c.in-Ok.ensures.info of
+    (run_told model name c.args.program list parts (options_of c.args.iterate) c.args.info _ (g.D.Depot.holds c.open.new.depot) e _ _ (Err c.in-Err-run.fault) c.in-Ok.ensures.program (c.in-Ok.ensures.options ∙ c.options_of.ensures) c.in-Ok.ensures.info of
     c.in-Ok.ensures.told
     (λ edges opened. subst (RunComes (ending (model e.program) edges e.info.vertices e.options.iterations) (report (model e.program) (name e.program) e.options.show e.options.mode edges e.info.vertices e.info.parts e.options.iterations) _ _) c.in-Err-run.is (c.run.ensures.told edges opened)))
 
@@ -39,10 +40,10 @@ returns-in-Ok-run-clause-takes g c = λ list parts of.
     let model = g.G.VertexProgram.model in
     let name = g.G.VertexProgram.name_text in
     let e = c.in-Ok.engine in
-    let ran = ran_by (model c.args.program) (name c.args.program) parts c.args.iterations c.args.mode list in
+    let ran = ran_by (model c.args.program) (name c.args.program) parts c.args.iterate list in
     let t = g.D.Depot.taken in
     subst (λ end. RunTakes ran (g.D.Depot.holds c.args.depot.now) (t c.args.depot.now) (t c.run.new.depot) (Ok end)) (sym c.ended_by.ensures)
-    (run_took model name c.args.program list parts _ c.args.info _ (g.D.Depot.holds c.open.new.depot) e _ _ c.in-Ok-run.ending (t c.args.depot.now) (t c.open.new.depot) (t c.run.new.depot) c.in-Ok.ensures.program c.in-Ok.ensures.options c.in-Ok.ensures.info of
+    (run_took model name c.args.program list parts (options_of c.args.iterate) c.args.info _ (g.D.Depot.holds c.open.new.depot) e _ _ c.in-Ok-run.ending (t c.args.depot.now) (t c.open.new.depot) (t c.run.new.depot) c.in-Ok.ensures.program (c.in-Ok.ensures.options ∙ c.options_of.ensures) c.in-Ok.ensures.info of
     c.in-Ok.ensures.told
     (λ edges opened. subst (RunComes (ending (model e.program) edges e.info.vertices e.options.iterations) (report (model e.program) (name e.program) e.options.show e.options.mode edges e.info.vertices e.info.parts e.options.iterations) _ _) c.in-Ok-run.is (c.run.ensures.told edges opened))
     (λ edges opened. subst (λ r. IfOk r (λ end. RoseBy (t c.open.new.depot Primary) (t c.run.new.depot Primary) (primary_taken (model e.program) edges e.info.vertices e.info.parts e.options.mode e.options.iterations end.iterations))) c.in-Ok-run.is (c.run.ensures.primary edges opened))
@@ -52,7 +53,7 @@ returns-in-Ok-run-clause-takes g c = λ list parts of.
 
 pub returns-in-Err-run-clause-takes : goal.returns-in-Err-run-clause-takes
 returns-in-Err-run-clause-takes g c = λ list parts of.
-    let ran = ran_by (g.G.VertexProgram.model c.args.program) (g.G.VertexProgram.name_text c.args.program) parts c.args.iterations c.args.mode list in
+    let ran = ran_by (g.G.VertexProgram.model c.args.program) (g.G.VertexProgram.name_text c.args.program) parts c.args.iterate list in
     let t = g.D.Depot.taken in
     subst (RunTakes ran (g.D.Depot.holds c.args.depot.now) (t c.args.depot.now) (t c.run.new.depot)) (sym c.run_stop.ensures) (takes_stop ran (g.D.Depot.holds c.args.depot.now) (t c.args.depot.now) (t c.run.new.depot) c.in-Err-run.fault)
 
@@ -74,11 +75,11 @@ returns-in-Err-run-clause-runs g c =
     leaves_then h t s _ _ _ (open_leaves h t s g.D.Depot.faults g.D.Depot.attached _ _ c.open.ensures.reads) (run_leaves_files h t s g.D.Depot.faults g.D.Depot.attached _ _ _ _ c.run.ensures.streams)
 
 pub returns-in-Err-clause-damaged : goal.returns-in-Err-clause-damaged
-returns-in-Err-clause-damaged g c = damaged_open c.args.iterations c.args.mode c.args.info (g.D.Depot.holds c.args.depot.now Meta) c.in-Err.fault _ c.open_stop.ensures c.in-Err.ensures.damaged
+returns-in-Err-clause-damaged g c = damaged_open c.args.iterate c.args.info (g.D.Depot.holds c.args.depot.now Meta) c.in-Err.fault _ c.open_stop.ensures c.in-Err.ensures.damaged
 
 pub returns-in-Err-clause-leaves : goal.returns-in-Err-clause-leaves
 returns-in-Err-clause-leaves g c = λ list parts of.
-    let ran = ran_by (g.G.VertexProgram.model c.args.program) (g.G.VertexProgram.name_text c.args.program) parts c.args.iterations c.args.mode list in
+    let ran = ran_by (g.G.VertexProgram.model c.args.program) (g.G.VertexProgram.name_text c.args.program) parts c.args.iterate list in
     unopened ran c.args.info (g.D.Depot.holds c.args.depot.now) (g.O.Sink.written c.args.out.now) c.in-Err.fault c.open_stop.result c.open_stop.ensures c.in-Err.ensures.damaged
 
 pub open_stop-requires : goal.open_stop-requires
@@ -90,9 +91,9 @@ returns-in-Ok-run-clause-shown g c =
     let name = g.G.VertexProgram.name_text in
     let old = g.O.Sink.written c.args.out.now in
     let new = g.O.Sink.written c.run.new.out in
-    let over = IsOverAt c.args.iterations c.args.info (IsOver g.G.Value.Fixed.is_in_range g.G.Sum.Fixed.is_in_range (model c.args.program)) in
-    let told = HasReport (model c.args.program) (name c.args.program) c.args.iterations c.args.mode c.args.info old new in
-    let reported = reported_at model name c.args.program _ c.args.info c.in-Ok.engine old new c.in-Ok-run.ending c.in-Ok.ensures.program c.in-Ok.ensures.options c.in-Ok.ensures.info c.in-Ok-run.ensures.reported in
+    let over = IsOverAt c.args.iterate.iterations c.args.info (IsOver g.G.Value.Fixed.is_in_range g.G.Sum.Fixed.is_in_range (model c.args.program)) in
+    let told = HasReport (model c.args.program) (name c.args.program) c.args.iterate c.args.info old new in
+    let reported = reported_at model name c.args.program (options_of c.args.iterate) c.args.info c.in-Ok.engine old new c.in-Ok-run.ending c.in-Ok.ensures.program (c.in-Ok.ensures.options ∙ c.options_of.ensures) c.in-Ok.ensures.info c.in-Ok-run.ensures.reported in
     subst (EndShown over told) (sym c.ended_by.ensures) (shown_end over told c.in-Ok-run.ending reported)
 
 pub returns-in-Err-run-clause-shown : goal.returns-in-Err-run-clause-shown
@@ -101,10 +102,10 @@ returns-in-Err-run-clause-shown g c =
     let e = c.in-Ok.engine in
     let values = g.G.Value.Fixed.is_in_range in
     let sums = g.G.Sum.Fixed.is_in_range in
-    let over = IsOverAt c.args.iterations c.args.info (IsOver values sums (model c.args.program)) in
-    let told = HasReport (model c.args.program) (g.G.VertexProgram.name_text c.args.program) c.args.iterations c.args.mode c.args.info (g.O.Sink.written c.args.out.now) (g.O.Sink.written c.run.new.out) in
-    let shows = shows_at values sums model c.args.program _ c.args.info e c.in-Err-run.fault c.in-Ok.ensures.program c.in-Ok.ensures.options c.in-Ok.ensures.info c.in-Err-run.ensures.shows in
-    subst (λ r. IfOk r (EndShown over told)) (sym c.run_stop.ensures) (shown_stop values sums (model c.args.program) c.args.mode c.args.iterations c.args.info e.table told c.in-Err-run.fault shows)
+    let over = IsOverAt c.args.iterate.iterations c.args.info (IsOver values sums (model c.args.program)) in
+    let told = HasReport (model c.args.program) (g.G.VertexProgram.name_text c.args.program) c.args.iterate c.args.info (g.O.Sink.written c.args.out.now) (g.O.Sink.written c.run.new.out) in
+    let shows = shows_at values sums model c.args.program (options_of c.args.iterate) c.args.info e c.in-Err-run.fault c.in-Ok.ensures.program (c.in-Ok.ensures.options ∙ c.options_of.ensures) c.in-Ok.ensures.info c.in-Err-run.ensures.shows in
+    subst (λ r. IfOk r (EndShown over told)) (sym c.run_stop.ensures) (shown_stop values sums (model c.args.program) c.args.iterate c.args.info e.table told c.in-Err-run.fault shows)
 
 pub returns-in-Err-run-clause-damaged : goal.returns-in-Err-run-clause-damaged
 returns-in-Err-run-clause-damaged g c =
@@ -112,6 +113,6 @@ returns-in-Err-run-clause-damaged g c =
     let e = c.in-Ok.engine in
     let values = g.G.Value.Fixed.is_in_range in
     let sums = g.G.Sum.Fixed.is_in_range in
-    let shows = shows_at values sums model c.args.program _ c.args.info e c.in-Err-run.fault c.in-Ok.ensures.program c.in-Ok.ensures.options c.in-Ok.ensures.info c.in-Err-run.ensures.shows in
-    subst (λ r. IfErr r (λ why. IfDamaged why (IsWrongIn c.args.iterations c.args.mode c.args.info))) (sym c.run_stop.ensures)
-    (damaged_stop values sums (model c.args.program) c.args.mode c.args.iterations c.args.info e.table c.in-Err-run.fault shows)
+    let shows = shows_at values sums model c.args.program (options_of c.args.iterate) c.args.info e c.in-Err-run.fault c.in-Ok.ensures.program (c.in-Ok.ensures.options ∙ c.options_of.ensures) c.in-Ok.ensures.info c.in-Err-run.ensures.shows in
+    subst (λ r. IfErr r (DamageShown (IsWrongIn c.args.iterate c.args.info))) (sym c.run_stop.ensures)
+    (damaged_stop values sums (model c.args.program) c.args.iterate c.args.info e.table c.in-Err-run.fault shows)

@@ -1,0 +1,240 @@
+-- What words, an input and the files at entry come to: what is done, or why it isn't.
+use Rattle.std.specs.Prelude.{ℕ, ◌+◌, Bool, true, List, [], length, nat_lt, unwrap_or, Option, Some, None, Result, Ok, Err, if◌then◌else◌}
+use Rattle.edge_text.specs.Reading.{Listed, reading}
+use Rattle.edge_text.specs.declared.fault.TextFault.{TextFault}
+use Rattle.edge_text.specs.declared.fault.TextLimits.{TextLimits}
+use Rattle.lumos_depot.specs.declared.depot.FileKind.{FileKind}
+use Rattle.lumos_law.specs.Program.{Program}
+use Rattle.lumos_law.specs.Sync.{Ending, ending}
+use Rattle.grid_format.specs.Checks.{GridFiles}
+use Rattle.grid_format.specs.Grid.{grid, grid_head}
+use Rattle.grid_format.specs.declared.head.GridInfo.{GridInfo}
+use Rattle.early_engine.specs.Passes.{primary_taken, secondary_taken}
+use Rattle.early_engine.specs.Report.{finished, report}
+use Rattle.early_engine.specs.declared.options.Mode.{Mode}
+use Rattle.early_engine.specs.declared.options.Mode.TheVariants.{Fed, Plain}
+use Rattle.early_engine.specs.declared.options.RunOptions.{RunOptions}
+use Rattle.early_engine.specs.declared.options.Show.{Show}
+use Rattle.early_engine.specs.declared.options.Show.TheVariants.{All, Brief}
+use Rattle.lumos_top.specs.Programs.{chosen}
+use Rattle.lumos_top.specs.Report.{grid_line}
+use Rattle.lumos_top.specs.Replays.{Refused, Streamed, replay_limits, replayed, streamed}
+use Rattle.lumos_top.specs.Stops.{ending_line, ending_status, stream_stop}
+use Rattle.lumos_words.specs.Requests.{request}
+use Rattle.lumos_words.specs.declared.faults.UsageFault.{UsageFault}
+use Rattle.lumos_words.specs.declared.request.BuildWords.{BuildWords}
+use Rattle.lumos_words.specs.declared.request.IterWords.{IterWords}
+use Rattle.lumos_words.specs.declared.request.ProgramWords.{ProgramWords}
+use Rattle.lumos_words.specs.declared.request.Request.{Request}
+use Rattle.lumos_words.specs.declared.request.Request.TheVariants.{Run, Build, Replay}
+use Rattle.lumos_top.specs.declared.status.Refusal.{Refusal}
+use Rattle.lumos_top.specs.declared.status.Refusal.TheVariants as refuse
+use Rattle.lumos_top.specs.declared.status.Status.{Status}
+use Rattle.lumos_top.specs.declared.status.Status.TheVariants as status
+use Rattle.lumos_top.specs.declared.status.Stop.{Stop}
+use Rattle.lumos_top.specs.declared.status.Stop.TheVariants as stop
+use Rattle.lumos_top.specs.declared.status.TooMany.{TooMany}
+use Rattle.lumos_top.specs.declared.status.TooMany.TheVariants.{Parts, Vertices}
+use Rattle.lumos_top.specs.declared.stream.StreamStop.{StreamStop}
+
+-- over how many parts a grid is built: as many as are stated, or 16
+abbrev pub stated_parts : BuildWords → ℕ
+stated_parts words = unwrap_or words.parts 16
+
+abbrev pub parts_for : BuildWords → Listed → ℕ
+parts_for words list = stated_parts words
+
+-- how the list of a command is read
+abbrev pub limits_with : BuildWords → Option ℕ → TextLimits
+limits_with words vertices = record { max_vertex = 268435455; vertices = vertices; max_edges = words.max_edges; max_bytes = words.max_bytes; both = words.both }
+
+abbrev pub vertices_within : BuildWords → Option ℕ → Result TextLimits TooMany
+vertices_within words None = Ok (limits_with words None)
+vertices_within words (Some n) = if nat_lt 268435456 n then Err (Vertices n 268435456) else Ok (limits_with words (Some n))
+
+-- the same, where neither the parts nor the vertices that are stated are too many
+abbrev pub limits_of : BuildWords → Result TextLimits TooMany
+limits_of words = if nat_lt 256 (stated_parts words) then Err (Parts (stated_parts words) 256) else vertices_within words words.vertices
+
+-- how a run goes through its grid, and what it shows
+abbrev pub mode_of : IterWords → Mode
+mode_of iterate = if iterate.plain then Plain else Fed
+
+abbrev pub show_of : IterWords → Show
+show_of iterate = if iterate.brief then Brief else All
+
+-- with the bytes that values and sums may take
+abbrev pub options_of : IterWords → RunOptions
+options_of iterate = record { iterations = iterate.iterations; mode = mode_of iterate; show = show_of iterate; budget = 1073741824 }
+
+-- how many bytes a command takes of files and stores in them
+pub record Moved : Type 0 where
+  pub primary_taken : ℕ
+  pub secondary_taken : ℕ
+  pub values_taken : ℕ
+  pub values_stored : ℕ
+  pub sums_taken : ℕ
+  pub sums_stored : ℕ
+
+-- blocks are taken, and nothing is kept in files
+abbrev pub taken_blocks : ℕ → ℕ → Moved
+taken_blocks primary secondary = record { primary_taken = primary; secondary_taken = secondary; values_taken = 0; values_stored = 0; sums_taken = 0; sums_stored = 0 }
+
+-- what a run writes, how it ends, and what its finished iterations move
+pub record Ran : Type 0 where
+  pub text : List ℕ
+  pub ending : Ending
+  pub moved : Moved
+
+abbrev pub ran_by : {V S : Type 0} → Program V S → List ℕ → ℕ → IterWords → Listed → Ran
+ran_by p name parts iterate list =
+    let end = ending p list.edges list.vertices iterate.iterations in record {
+      text = report p name (show_of iterate) (mode_of iterate) list.edges list.vertices parts iterate.iterations;
+      ending = end;
+      moved = taken_blocks (primary_taken p list.edges list.vertices parts (mode_of iterate) iterate.iterations (finished end)) (secondary_taken p list.edges list.vertices parts (mode_of iterate) iterate.iterations (finished end));
+    }
+
+abbrev pub ran_as : ProgramWords → ℕ → IterWords → Listed → Ran
+ran_as words parts iterate list = let c = chosen words in ran_by c.program c.name parts iterate list
+
+-- a grid that is built: that of a list, over so many parts
+pub record Built : Type 0 where
+  pub list : Listed
+  pub parts : ℕ
+
+-- a run over such a grid: its program, and how it iterates
+pub record RunOn : Type 0 where
+  pub program : ProgramWords
+  pub iterate : IterWords
+  pub own : Built
+
+-- its head, and its files
+abbrev pub built_head : Built → GridInfo
+built_head built = grid_head built.list.edges built.list.vertices built.parts
+
+abbrev pub built_files : Built → GridFiles
+built_files built = grid built.list.edges built.list.vertices built.parts
+
+-- what a command comes to that nothing stops: its text, its status and fault line, whether it reads the input, the grid that it
+-- builds, if any, the run whose text is made of what the files of that grid give back, if it is one, and what it moves
+pub record Did : Type 0 where
+  pub text : List ℕ
+  pub status : Status
+  pub line : List ℕ
+  pub reads : Bool
+  pub built : Option Built
+  pub run : Option RunOn
+  pub moved : Moved
+
+-- why a command isn't done, and the grid that it has built by then, if any
+pub record Halted : Type 0 where
+  pub why : Stop
+  pub built : Option Built
+
+-- it is refused, and leaves the grid that was there
+abbrev pub halted : Refusal → Halted
+halted why = record { why = stop.Refused why; built = None }
+
+-- a build copies from Primary what the grid's Secondary has, and a run then takes what its iterations read
+abbrev pub copied_bytes : Built → ℕ
+copied_bytes built = length (built_files built).secondary
+
+abbrev pub did_run : ProgramWords → BuildWords → IterWords → Listed → Did
+did_run program words iterate list =
+    let own : Built = record { list = list; parts = parts_for words list } in
+    let ran = ran_as program own.parts iterate list in record {
+      text = ran.text;
+      status = ending_status ran.ending;
+      line = ending_line ran.ending;
+      reads = true;
+      built = Some own;
+      run = Some (record { program = program; iterate = iterate; own = own });
+      moved = taken_blocks (copied_bytes own + ran.moved.primary_taken) ran.moved.secondary_taken;
+    }
+
+abbrev pub did_build : BuildWords → Listed → Did
+did_build words list =
+    let own : Built = record { list = list; parts = parts_for words list } in record {
+      text = grid_line list.vertices (length list.edges) own.parts;
+      status = status.Done;
+      line = [];
+      reads = true;
+      built = Some own;
+      run = None;
+      moved = taken_blocks (copied_bytes own) 0;
+    }
+
+-- what is done with a list that was read, or its fault
+abbrev pub done_with : (Listed → Did) → Result Listed TextFault → Result Did Halted
+done_with command (Ok list) = Ok (command list)
+done_with command (Err fault) = Err (halted (refuse.Text fault))
+
+abbrev pub done_within : (Listed → Did) → Result TextLimits TooMany → List ℕ → Result Did Halted
+done_within command (Ok limits) input = done_with command (reading limits input)
+done_within command (Err many) input = Err (halted (refuse.TooMany many))
+
+-- what a replay writes, unless an event is refused
+abbrev pub did_replay : Result (List ℕ) Refused → Result Did Halted
+did_replay (Ok text) = Ok (record { text = text; status = status.Done; line = []; reads = true; built = None; run = None; moved = taken_blocks 0 0 })
+did_replay (Err refused) = Err (halted (refuse.Illegal refused.event refused.why))
+
+-- what a replay of events over a list writes: the iterations from 0 to 1024 are shown
+abbrev pub replay_text : ProgramWords → ℕ → Streamed → Result (List ℕ) Refused
+replay_text words parts s = let c = chosen words in replayed c.program s.list.edges s.list.vertices parts c.name 1025 s.events
+
+abbrev pub replay_with : ProgramWords → ℕ → Result Streamed StreamStop → Result Did Halted
+replay_with program parts (Ok s) = did_replay (replay_text program parts s)
+replay_with program parts (Err why) = Err (record { why = stream_stop why; built = None })
+
+-- how the list behind a schedule is read, where neither the parts nor the vertices that are stated are too many: a replay has 64
+-- and 4096 at most
+abbrev pub replay_vertices : Option ℕ → Bool → Result TextLimits TooMany
+replay_vertices None both = Ok (replay_limits None both)
+replay_vertices (Some n) both = if nat_lt 4096 n then Err (Vertices n 4096) else Ok (replay_limits (Some n) both)
+
+abbrev pub replay_within : ℕ → Option ℕ → Bool → Result TextLimits TooMany
+replay_within parts vertices both = if nat_lt 64 parts then Err (Parts parts 64) else replay_vertices vertices both
+
+-- a schedule has 2^40 bytes at most
+abbrev pub did_within : ProgramWords → ℕ → Result TextLimits TooMany → List ℕ → Result Did Halted
+did_within program parts (Ok limits) input = replay_with program parts (streamed limits 1099511627776 input)
+did_within program parts (Err many) input = Err (halted (refuse.TooMany many))
+
+-- What an input and the files at entry come to, as asked.
+abbrev pub answer_to : Result Request UsageFault → List ℕ → (FileKind → List ℕ) → Result Did Halted
+answer_to (Ok (Run program grid iterate)) input files = done_within (did_run program grid iterate) (limits_of grid) input
+answer_to (Ok (Build grid)) input files = done_within (did_build grid) (limits_of grid) input
+answer_to (Ok (Replay program parts vertices both)) input files = did_within program parts (replay_within parts vertices both) input
+answer_to (Err fault) input files = Err (halted (refuse.Usage fault))
+
+-- What words, an input and the files at entry come to.
+abbrev pub answer : List (List ℕ) → List ℕ → (FileKind → List ℕ) → Result Did Halted
+answer words input files = answer_to (request words) input files
+
+-- why the words alone are refused, whatever the input is: they ask for nothing, or state a number that is too great
+abbrev pub stopped_by : Result TextLimits TooMany → Option Refusal
+stopped_by (Ok limits) = None
+stopped_by (Err many) = Some (refuse.TooMany many)
+
+abbrev pub refusal_of : Result Request UsageFault → Option Refusal
+refusal_of (Ok (Run program grid iterate)) = stopped_by (limits_of grid)
+refusal_of (Ok (Build grid)) = stopped_by (limits_of grid)
+refusal_of (Ok (Replay program parts vertices both)) = stopped_by (replay_within parts vertices both)
+refusal_of (Err fault) = Some (refuse.Usage fault)
+
+abbrev pub refusal : List (List ℕ) → Option Refusal
+refusal words = refusal_of (request words)
+
+-- the directory that words lead to, if they lead to one: that of a run or a build for which no stated number is too great
+abbrev pub place_within : Result TextLimits TooMany → List ℕ → Option (List ℕ)
+place_within (Ok limits) name = Some name
+place_within (Err many) name = None
+
+abbrev pub place_for : Result Request UsageFault → Option (List ℕ)
+place_for (Ok (Run program grid iterate)) = place_within (limits_of grid) grid.dir
+place_for (Ok (Build grid)) = place_within (limits_of grid) grid.dir
+place_for (Ok (Replay program parts vertices both)) = None
+place_for (Err fault) = None
+
+abbrev pub directory : List (List ℕ) → Option (List ℕ)
+directory words = place_for (request words)

@@ -46,6 +46,14 @@ const fn damaged(place: u64, found: u64) -> Answer {
     })
 }
 
+fn edge(source: u32, target: u32, weight: u32) -> Edge {
+    Edge {
+        source: Vertex(source),
+        target: Vertex(target),
+        weight: Weight(weight),
+    }
+}
+
 // A byte of Primary that is changed, the byte in its place, the calls that fail; the two answers, and the bytes taken.
 type Row<'a> = (usize, u8, &'a [u64], Answer, Answer, u64);
 
@@ -63,39 +71,17 @@ fn a_block_is_read_and_its_first_word_outside_is_found(rt: HostRuntime) -> Resul
         let mut primary = PRIMARY;
         primary[place] = byte;
         let mut depot = MemDepot::new(rt.alloc(), fails).ok().expect(&rt, "memory");
-        assert!(rt;
-            depot
-                .put_file(rt.alloc(), FileKind::Primary, &primary)
-                .is_ok()
-        );
+        let put = depot.put_file(rt.alloc(), FileKind::Primary, &primary);
+        assert!(rt; put.is_ok());
         let sources = VertexRange { first: 0, past: 3 };
         let targets = VertexRange { first: 3, past: 5 };
         let mut cursor = BlockCursor::new(FileKind::Primary, 12, 2, sources, targets);
-        let edge = Edge {
-            source: Vertex(0),
-            target: Vertex(0),
-            weight: Weight(0),
-        };
-        let mut out = [edge; 2];
-        assert_eq!(rt;
-            ask_twice(&mut depot, &mut cursor, &mut out),
-            Some((first, second)),
-            "byte {place} {fails:?}"
-        );
-        assert_eq!(rt;
-            depot.taken_of(FileKind::Primary),
-            taken,
-            "byte {place} {fails:?}"
-        );
+        let mut out = [edge(0, 0, 0); 2];
+        let answers = ask_twice(&mut depot, &mut cursor, &mut out);
+        assert_eq!(rt; answers, Some((first, second)), "byte {place}");
+        assert_eq!(rt; depot.taken_of(FileKind::Primary), taken, "byte {place}");
         if first == Ok(2) || second == Ok(2) {
-            let edges = [(1, 3, 8), (2, 4, 256)];
-            for i in 0..2usize {
-                assert_eq!(rt;
-                    (out[i].source.0, out[i].target.0, out[i].weight.0),
-                    edges[i],
-                    "byte {place} {fails:?}"
-                );
-            }
+            assert!(rt; out == [edge(1, 3, 8), edge(2, 4, 256)], "byte {place}");
         }
     }
     Ok(())

@@ -1,250 +1,346 @@
-// Whole runs, builds and replays over objects in memory: printed texts, files, and the bytes that are taken.
-use crate::rows::{ROW, Row, check, check_all, check_over, words_of};
-use lumos_depot::{FileKind, MemDepot, MemSink, MemSource};
-use lumos_top::{Status, lumos};
+// Whole runs and builds over objects in memory: printed texts, files, and the bytes that are taken.
+use crate::rows::{HERE, Row, check_over, check_table, perform, row_of};
+use lumos_depot::{FileKind, MemDepot};
+use lumos_top::Status;
+use std::process::Abort;
 use std::test::Fail;
 
-// The bytes of Meta, Primary, Secondary and Info.
-type Files<'a> = [&'a [u8]; 4];
-
 // A list over two parts: three of its four edges lie on the diagonal or below it.
-pub const FOUR: Row<'static> = Row {
-    words: "run components --parts 2 --iterations 5",
-    input: "0 2\n2 1\n3 2\n0 1\n",
-    out: "lumos components vertices 4 edges 4 parts 2\niteration 0\n0 0\n1 1\n2 2\n3 3\niteration 1 full primary 4 secondary 0 skipped 0 empty 0 moved 2\n0 0\n1 0\n2 0\n3 3\niteration 2 fed primary 0 secondary 3 skipped 0 empty 0 moved 0\n0 0\n1 0\n2 0\n3 3\nstill 2\n",
-    path: Some("."),
-    ..ROW
-};
+pub const FOUR: &str = "\
+four edges|run components --parts 2 --iterations 5|0 2
+2 1
+3 2
+0 1
+|lumos components vertices 4 edges 4 parts 2
+iteration 0
+0 0
+1 1
+2 2
+3 3
+iteration 1 full primary 4 secondary 0 skipped 0 empty 0 moved 2
+0 0
+1 0
+2 0
+3 3
+iteration 2 fed primary 0 secondary 3 skipped 0 empty 0 moved 0
+0 0
+1 0
+2 0
+3 3
+still 2
+|";
 
-// The same in plain mode, and with one iteration.
-const FOUR_PLAIN: Row<'static> = Row {
-    words: "run components --parts 2 --iterations 5 --mode plain",
-    out: "lumos components vertices 4 edges 4 parts 2\niteration 0\n0 0\n1 1\n2 2\n3 3\niteration 1 full primary 4 secondary 0 skipped 0 empty 0 moved 2\n0 0\n1 0\n2 0\n3 3\niteration 2 full primary 4 secondary 0 skipped 0 empty 0 moved 0\n0 0\n1 0\n2 0\n3 3\nstill 2\n",
-    ..FOUR
-};
+// Runs and a build in the working directory.
+const RUNS: &str = "\
+five vertices, plain|run components --parts 2 --mode plain|0 4
+3 1
+|lumos components vertices 5 edges 2 parts 2
+iteration 0
+0 0
+1 1
+2 2
+3 3
+4 4
+iteration 1 full primary 2 secondary 0 skipped 0 empty 2 moved 1
+0 0
+1 1
+2 2
+3 3
+4 0
+iteration 2 full primary 1 secondary 0 skipped 1 empty 2 moved 0
+0 0
+1 1
+2 2
+3 3
+4 0
+still 2
+|@four edges, one iteration|run components --parts 2 --iterations 1|0 2
+2 1
+3 2
+0 1
+|lumos components vertices 4 edges 4 parts 2
+iteration 0
+0 0
+1 1
+2 2
+3 3
+iteration 1 full primary 4 secondary 0 skipped 0 empty 0 moved 2
+0 0
+1 0
+2 0
+3 3
+limit 1
+|@four edges, no values shown, options before the name|run --parts=2 --show=brief --mode fed --iterations=5 -- components|0 2
+2 1
+3 2
+0 1
+|lumos components vertices 4 edges 4 parts 2
+iteration 0
+iteration 1 full primary 4 secondary 0 skipped 0 empty 0 moved 2
+iteration 2 fed primary 0 secondary 3 skipped 0 empty 0 moved 0
+still 2
+|@a chain whose blocks feed ahead, until none has news|run components --parts 3|0 1
+1 2
+|lumos components vertices 3 edges 2 parts 3
+iteration 0
+0 0
+1 1
+2 2
+iteration 1 full primary 2 secondary 0 skipped 0 empty 7 moved 2
+0 0
+1 0
+2 1
+iteration 2 fed primary 0 secondary 0 skipped 0 empty 6 moved 1
+0 0
+1 0
+2 0
+iteration 3 full primary 0 secondary 0 skipped 2 empty 7 moved 0
+0 0
+1 0
+2 0
+still 3
+|@comments, tabs, carriage returns, no end of the last line|run components --parts 1|# Nodes: 3\r
 
-const FOUR_ONCE: Row<'static> = Row {
-    words: "run components --parts 2 --iterations 1",
-    out: "lumos components vertices 4 edges 4 parts 2\niteration 0\n0 0\n1 1\n2 2\n3 3\niteration 1 full primary 4 secondary 0 skipped 0 empty 0 moved 2\n0 0\n1 0\n2 0\n3 3\nlimit 1\n",
-    ..FOUR
-};
+% c
+0\t1\r
+1 2|lumos components vertices 3 edges 2 parts 1
+iteration 0
+0 0
+1 1
+2 2
+iteration 1 full primary 1 secondary 0 skipped 0 empty 0 moved 2
+0 0
+1 0
+2 1
+iteration 2 fed primary 0 secondary 1 skipped 0 empty 0 moved 1
+0 0
+1 0
+2 0
+iteration 3 full primary 1 secondary 0 skipped 0 empty 0 moved 0
+0 0
+1 0
+2 0
+still 3
+|@an edge that stands twice|run tally --parts 2 --iterations 3|0 1
+0 1
+|lumos tally vertices 2 edges 2 parts 2
+iteration 0
+0 0
+1 0
+iteration 1 full primary 1 secondary 0 skipped 0 empty 3 moved 1
+0 0
+1 2
+iteration 2 fed primary 0 secondary 0 skipped 0 empty 3 moved 1
+0 0
+1 4
+iteration 3 full primary 1 secondary 0 skipped 0 empty 3 moved 1
+0 0
+1 6
+limit 3
+|@no input|run components --parts 4||lumos components vertices 0 edges 0 parts 4
+iteration 0
+iteration 1 full primary 0 secondary 0 skipped 0 empty 16 moved 0
+still 1
+|@an edge to itself|run components --parts 8|0 0
+|lumos components vertices 1 edges 1 parts 8
+iteration 0
+0 0
+iteration 1 full primary 1 secondary 0 skipped 0 empty 63 moved 0
+0 0
+still 1
+|@as many bytes as may come, and 16 parts|run components --max-bytes 3|0 1|lumos components vertices 2 edges 1 parts 16
+iteration 0
+0 0
+1 1
+iteration 1 full primary 1 secondary 0 skipped 0 empty 255 moved 1
+0 0
+1 0
+iteration 2 fed primary 0 secondary 0 skipped 0 empty 136 moved 0
+0 0
+1 0
+still 2
+|@both directions, as many edges as may come|run components --parts 1 --iterations 1 --both --max-edges 2|0 1|lumos components vertices 2 edges 2 parts 1
+iteration 0
+0 0
+1 1
+iteration 1 full primary 1 secondary 0 skipped 0 empty 0 moved 1
+0 0
+1 0
+limit 1
+|@a stated number of vertices|run tally --parts 1 --iterations 1 --vertices 2|0 0
+|lumos tally vertices 2 edges 1 parts 1
+iteration 0
+0 0
+1 0
+iteration 1 full primary 1 secondary 0 skipped 0 empty 0 moved 1
+0 1
+1 0
+limit 1
+|@just enough memory|run components --parts 2 --budget 102|0 4
+3 1
+|lumos components vertices 5 edges 2 parts 2
+iteration 0
+0 0
+1 1
+2 2
+3 3
+4 4
+iteration 1 full primary 2 secondary 0 skipped 0 empty 2 moved 1
+0 0
+1 1
+2 2
+3 3
+4 0
+iteration 2 fed primary 0 secondary 1 skipped 0 empty 2 moved 0
+0 0
+1 1
+2 2
+3 3
+4 0
+still 2
+|@a build of 16 parts|build|0 4
+3 1
+|grid vertices 5 edges 2 parts 16
+|";
 
-// A chain of three, each in a part of its own: both of its blocks feed ahead, and at last none has news to tell.
-const CHAIN: Row<'static> = Row {
-    words: "run components --parts 3 --iterations 10",
-    input: "0 1\n1 2\n",
-    out: "lumos components vertices 3 edges 2 parts 3\niteration 0\n0 0\n1 1\n2 2\niteration 1 full primary 2 secondary 0 skipped 0 empty 7 moved 2\n0 0\n1 0\n2 1\niteration 2 fed primary 0 secondary 0 skipped 0 empty 6 moved 1\n0 0\n1 0\n2 0\niteration 3 full primary 0 secondary 0 skipped 2 empty 7 moved 0\n0 0\n1 0\n2 0\nstill 3\n",
-    path: Some("."),
-    ..ROW
-};
+const IN_D: &str = "\
+a run in a directory|run --dir=d --parts 1 components||lumos components vertices 0 edges 0 parts 1
+iteration 0
+iteration 1 full primary 0 secondary 0 skipped 0 empty 1 moved 0
+still 1
+|@a build in a directory|build --dir d --parts 2|0 4
+3 1
+|grid vertices 5 edges 2 parts 2
+|";
 
-// The chain of three in one part, with comments, a blank line, tabs and carriage returns, and no end of the last line.
-const LINES: Row<'static> = Row {
-    words: "run components --parts 1 --iterations 10",
-    input: "# Nodes: 3\r\n\n% c\n0\t1\r\n1 2",
-    step: 3,
-    out: "lumos components vertices 3 edges 2 parts 1\niteration 0\n0 0\n1 1\n2 2\niteration 1 full primary 1 secondary 0 skipped 0 empty 0 moved 2\n0 0\n1 0\n2 1\niteration 2 fed primary 0 secondary 1 skipped 0 empty 0 moved 1\n0 0\n1 0\n2 0\niteration 3 full primary 1 secondary 0 skipped 0 empty 0 moved 0\n0 0\n1 0\n2 0\nstill 3\n",
-    path: Some("."),
-    ..ROW
-};
+#[test]
+fn runs_and_builds_print_their_reports(rt: HostRuntime) -> Result<(), Fail> {
+    check_table(&rt, rt.alloc(), &HERE, RUNS)?;
+    let in_d = Row {
+        path: Some("d"),
+        ..HERE
+    };
+    check_table(&rt, rt.alloc(), &in_d, IN_D)
+}
 
-// An edge that stands twice.
-const TWICE: Row<'static> = Row {
-    words: "run tally --parts 2 --iterations 3",
-    input: "0 1\n0 1\n",
-    out: "lumos tally vertices 2 edges 2 parts 2\niteration 0\n0 0\n1 0\niteration 1 full primary 1 secondary 0 skipped 0 empty 3 moved 1\n0 0\n1 2\niteration 2 fed primary 0 secondary 0 skipped 0 empty 3 moved 1\n0 0\n1 4\niteration 3 full primary 1 secondary 0 skipped 0 empty 3 moved 1\n0 0\n1 6\nlimit 3\n",
-    path: Some("."),
-    ..ROW
-};
-
-// A list whose grid over two parts has a vertex more in the first part.
-const FIVE: Row<'static> = Row {
-    words: "build --parts 2",
-    input: "0 4\n3 1\n",
-    out: "grid vertices 5 edges 2 parts 2\n",
-    path: Some("."),
-    ..ROW
-};
-
-// A build takes of Primary what it copies, a full iteration the blocks that it reads, and a fed one none of it, but those that
-// it reads of Secondary. Nothing is stored in Sums.
+// A build takes of Primary what it copies into Secondary, here 36 bytes; then a full iteration takes the blocks that it reads of
+// Primary, and a fed one those of Secondary. Nothing is stored in Sums.
 #[test]
 fn a_fed_iteration_takes_nothing_of_primary(rt: HostRuntime) -> Result<(), Fail> {
-    let rows = [
-        (&FOUR, 36 + 48, 36),
-        (&FOUR_PLAIN, 36 + 48 + 48, 0),
-        (&FOUR_ONCE, 36 + 48, 0),
-        (&CHAIN, 24, 0),
-        (&LINES, 24 + 24 + 24, 24),
-        (&TWICE, 24 + 24, 0),
-        (&FIVE, 12, 0),
-    ];
-    for (row, primary, secondary) in rows {
-        let depot = check(&rt, rt.alloc(), row)?;
-        assert_eq!(rt; depot.taken_of(FileKind::Primary), primary, "{}", row.words);
-        assert_eq!(rt;
-            depot.taken_of(FileKind::Secondary),
-            secondary,
-            "{}",
-            row.words
-        );
-        assert_eq!(rt; depot.stored_of(FileKind::Sums), 0, "{}", row.words);
+    for (words, primary, secondary) in [
+        ("run components --parts 2 --iterations 5", 36 + 48, 36),
+        ("run components --parts 2 --mode plain", 36 + 48 + 48, 0),
+        ("run components --parts 2 --iterations 1", 36 + 48, 0),
+    ] {
+        let row = Row {
+            words,
+            ..row_of(&rt, &HERE, FOUR)
+        };
+        let mut depot = MemDepot::new(rt.alloc(), &[]).ok().expect(&rt, "memory");
+        perform(&rt, rt.alloc(), &row, &mut depot)?;
+        assert_eq!(rt; depot.taken_of(FileKind::Primary), primary, "{words}");
+        assert_eq!(rt; depot.taken_of(FileKind::Secondary), secondary, "{words}");
+        assert_eq!(rt; depot.stored_of(FileKind::Sums), 0, "{words}");
     }
     Ok(())
 }
 
-// Runs in the words of the defaults, and with each other option.
-const REPORTS: [Row<'static>; 6] = [
-    Row {
-        words: "run components --parts 4 --iterations 10",
-        out: "lumos components vertices 0 edges 0 parts 4\niteration 0\niteration 1 full primary 0 secondary 0 skipped 0 empty 16 moved 0\nstill 1\n",
-        path: Some("."),
-        ..ROW
-    },
-    Row {
-        words: "run components --parts 8 --iterations 10",
-        input: "0 0\n",
-        out: "lumos components vertices 1 edges 1 parts 8\niteration 0\n0 0\niteration 1 full primary 1 secondary 0 skipped 0 empty 63 moved 0\n0 0\nstill 1\n",
-        path: Some("."),
-        ..ROW
-    },
-    Row {
-        words: "run components --parts 16 --iterations 10 --max-bytes 3",
-        input: "0 1",
-        out: "lumos components vertices 2 edges 1 parts 16\niteration 0\n0 0\n1 1\niteration 1 full primary 1 secondary 0 skipped 0 empty 255 moved 1\n0 0\n1 0\niteration 2 fed primary 0 secondary 0 skipped 0 empty 136 moved 0\n0 0\n1 0\nstill 2\n",
-        path: Some("."),
-        ..ROW
-    },
-    Row {
-        words: "run components --parts 1 --iterations 1 --max-bytes 3 --both --mode plain",
-        input: "0 1",
-        out: "lumos components vertices 2 edges 2 parts 1\niteration 0\n0 0\n1 1\niteration 1 full primary 1 secondary 0 skipped 0 empty 0 moved 1\n0 0\n1 0\nlimit 1\n",
-        path: Some("."),
-        ..ROW
-    },
-    Row {
-        words: "run tally --dir d --parts 1 --iterations 1 --vertices 2 --max-edges 1 --mode fed",
-        input: "0 0\n",
-        out: "lumos tally vertices 2 edges 1 parts 1\niteration 0\n0 0\n1 0\niteration 1 full primary 1 secondary 0 skipped 0 empty 0 moved 1\n0 1\n1 0\nlimit 1\n",
-        path: Some("d"),
-        ..ROW
-    },
-    Row {
-        words: "build --dir d --parts 2",
-        path: Some("d"),
-        ..FIVE
-    },
-];
+// Five vertices, of which three lie in the first part. With vertex 3 as the greatest there are two in each.
+pub const FIVE: &str = "\
+five vertices|build --parts 2|0 4
+3 1
+|grid vertices 5 edges 2 parts 2
+|";
 
-#[test]
-fn runs_print_their_reports(rt: HostRuntime) -> Result<(), Fail> {
-    check_all(&rt, rt.alloc(), &REPORTS)
+const UP_TO_THREE: &str = "\
+up to vertex 3|build --parts 2|0 3
+|grid vertices 4 edges 1 parts 2
+|";
+
+pub fn five_files() -> [(FileKind, &'static [u8]); 5] {
+    [
+        (
+            FileKind::Meta,
+            b"LUMOSGRD\x01\0\0\0\x02\0\0\0\x05\0\0\0\0\0\0\0\x02\0\0\0\0\0\0\0\0\0\0\0\0\0\0\0\x01\0\0\0\0\0\0\0\x01\0\0\0\0\0\0\0\0\0\0\0\0\0\0\0",
+        ),
+        (
+            FileKind::Primary,
+            b"\x03\0\0\0\x01\0\0\0\x01\0\0\0\0\0\0\0\x04\0\0\0\x01\0\0\0",
+        ),
+        (FileKind::Secondary, b"\x03\0\0\0\x01\0\0\0\x01\0\0\0"),
+        (
+            FileKind::Info,
+            b"\x01\0\0\0\x01\0\0\0\0\0\0\0\0\0\0\0\0\0\0\0\0\0\0\0\0\0\0\0\0\0\0\0\0\0\0\0\x01\0\0\0\x01\0\0\0\0\0\0\0\0\0\0\0\0\0\0\0\0\0\0\0",
+        ),
+        (FileKind::Spool, b""),
+    ]
 }
 
-// Whether the four files of the grid are these.
-fn are_files(depot: &MemDepot, files: &Files) -> bool {
-    depot.file(FileKind::Meta) == files[0]
-        && depot.file(FileKind::Primary) == files[1]
-        && depot.file(FileKind::Secondary) == files[2]
-        && depot.file(FileKind::Info) == files[3]
+fn up_to_three_files() -> [(FileKind, &'static [u8]); 2] {
+    [
+        (FileKind::Primary, b"\0\0\0\0\x03\0\0\0\x01\0\0\0"),
+        (FileKind::Secondary, b""),
+    ]
 }
 
-const FOUR_FILES: Files<'static> = [
-    b"LUMOSGRD\x01\0\0\0\x02\0\0\0\x04\0\0\0\0\0\0\0\x04\0\0\0\0\0\0\0\x01\0\0\0\0\0\0\0\x01\0\0\0\0\0\0\0\x01\0\0\0\0\0\0\0\x01\0\0\0\0\0\0\0",
-    b"\0\0\0\0\x01\0\0\0\x01\0\0\0\x02\0\0\0\x01\0\0\0\x01\0\0\0\0\0\0\0\x02\0\0\0\x01\0\0\0\x03\0\0\0\x02\0\0\0\x01\0\0\0",
-    b"\0\0\0\0\x01\0\0\0\x01\0\0\0\x02\0\0\0\x01\0\0\0\x01\0\0\0\x03\0\0\0\x02\0\0\0\x01\0\0\0",
-    b"\x02\0\0\0\x02\0\0\0\0\0\0\0\0\0\0\0\0\0\0\0\0\0\0\0\x01\0\0\0\x01\0\0\0\0\0\0\0\x01\0\0\0\x01\0\0\0\0\0\0\0",
-];
-
-const FIVE_FILES: Files<'static> = [
-    b"LUMOSGRD\x01\0\0\0\x02\0\0\0\x05\0\0\0\0\0\0\0\x02\0\0\0\0\0\0\0\0\0\0\0\0\0\0\0\x01\0\0\0\0\0\0\0\x01\0\0\0\0\0\0\0\0\0\0\0\0\0\0\0",
-    b"\x03\0\0\0\x01\0\0\0\x01\0\0\0\0\0\0\0\x04\0\0\0\x01\0\0\0",
-    b"\x03\0\0\0\x01\0\0\0\x01\0\0\0",
-    b"\x01\0\0\0\x01\0\0\0\0\0\0\0\0\0\0\0\0\0\0\0\0\0\0\0\0\0\0\0\0\0\0\0\0\0\0\0\x01\0\0\0\x01\0\0\0\0\0\0\0\0\0\0\0\0\0\0\0\0\0\0\0",
-];
-
-// Where vertex 3 is the greatest, it lies in the second part with vertex 2.
-const THREE_FILES: Files<'static> = [
-    b"LUMOSGRD\x01\0\0\0\x02\0\0\0\x04\0\0\0\0\0\0\0\x01\0\0\0\0\0\0\0\0\0\0\0\0\0\0\0\0\0\0\0\0\0\0\0\x01\0\0\0\0\0\0\0\0\0\0\0\0\0\0\0",
-    b"\0\0\0\0\x03\0\0\0\x01\0\0\0",
-    b"",
-    b"\x01\0\0\0\x01\0\0\0\0\0\0\0\0\0\0\0\0\0\0\0\0\0\0\0\0\0\0\0\0\0\0\0\0\0\0\0\0\0\0\0\0\0\0\0\0\0\0\0",
-];
+// Compares some files.
+pub fn check_files(rt: &impl Abort, depot: &MemDepot, files: &[(FileKind, &[u8])]) {
+    for (kind, bytes) in files {
+        assert_eq!(rt; depot.file(*kind), *bytes, "{kind:?}");
+    }
+}
 
 #[test]
-fn a_run_takes_the_list_and_not_the_grid_that_lies_there(rt: HostRuntime) -> Result<(), Fail> {
-    let three = Row {
-        input: "0 3\n",
-        out: "grid vertices 4 edges 1 parts 2\n",
-        ..FIVE
-    };
+fn a_command_takes_the_list_and_not_the_grid_that_lies_there(rt: HostRuntime) -> Result<(), Fail> {
     let mut depot = MemDepot::new(rt.alloc(), &[]).ok().expect(&rt, "memory");
-    let rows = [(FIVE, FIVE_FILES), (three, THREE_FILES), (FOUR, FOUR_FILES)];
-    for (row, files) in &rows {
-        depot.detach();
-        check_over(&rt, rt.alloc(), row, &mut depot)?;
-        assert!(rt; are_files(&depot, files), "{} {}", row.words, row.input);
-    }
-    Ok(())
+    let row = row_of(&rt, &HERE, UP_TO_THREE);
+    check_over(&rt, rt.alloc(), &row, &mut depot)?;
+    check_files(&rt, &depot, &up_to_three_files());
+    depot.detach();
+    let row = row_of(&rt, &HERE, FIVE);
+    check_over(&rt, rt.alloc(), &row, &mut depot)?;
+    check_files(&rt, &depot, &five_files());
+    depot.detach();
+    let row = row_of(&rt, &HERE, FOUR);
+    check_over(&rt, rt.alloc(), &row, &mut depot)
 }
 
-// Each call of the depot fails in turn, until the run has no such call.
+// Whether two directories hold the same grid.
+fn have_same_grid(depot: &MemDepot, other: &MemDepot) -> bool {
+    depot.file(FileKind::Meta) == other.file(FileKind::Meta)
+        && depot.file(FileKind::Primary) == other.file(FileKind::Primary)
+        && depot.file(FileKind::Secondary) == other.file(FileKind::Secondary)
+        && depot.file(FileKind::Info) == other.file(FileKind::Info)
+}
+
+// Each call of the depot fails in turn, until the run has no such call. A run that has begun to write has built its grid.
 #[test]
 fn a_run_ends_at_the_call_that_fails(rt: HostRuntime) -> Result<(), Fail> {
-    let alloc = rt.alloc();
-    let words = words_of(alloc, FOUR.words)?;
-    for call in 1..1000u64 {
-        let mut input = MemSource::new(alloc, FOUR.input.as_bytes(), 5, &[])
+    let row = row_of(&rt, &HERE, FOUR);
+    let mut whole = MemDepot::new(rt.alloc(), &[]).ok().expect(&rt, "memory");
+    check_over(&rt, rt.alloc(), &row, &mut whole)?;
+    for call in 1..=whole.calls() {
+        let mut depot = MemDepot::new(rt.alloc(), &[call])
             .ok()
             .expect(&rt, "memory");
-        let mut depot = MemDepot::new(alloc, &[call]).ok().expect(&rt, "memory");
-        let mut out = MemSink::new(alloc, 600, &[]).ok().expect(&rt, "memory");
-        let mut err = MemSink::new(alloc, 99, &[]).ok().expect(&rt, "memory");
-        let status = lumos(alloc, &words, &mut input, &mut depot, &mut out, &mut err);
-        let whole = out.bytes().is_empty() || are_files(&depot, &FOUR_FILES);
-        assert!(rt; whole, "call {call}");
-        if depot.calls() < call {
-            assert_eq!(rt; status, Status::Done);
-            assert_eq!(rt; out.bytes(), FOUR.out.as_bytes());
-            return Ok(());
-        }
-        assert_eq!(rt; status, Status::DepotFault, "call {call}");
-        assert!(rt; FOUR.out.as_bytes().starts_with(out.bytes()), "call {call}");
+        let came = perform(&rt, rt.alloc(), &row, &mut depot)?;
+        assert!(rt;
+            came.out.bytes().is_empty() || have_same_grid(&depot, &whole),
+            "call {call}"
+        );
+        assert!(rt;
+            row.out.as_bytes().starts_with(came.out.bytes()),
+            "call {call}"
+        );
         assert_eq!(rt;
-            err.bytes(),
+            came.err.bytes(),
             b"lumos: depot fault\n".as_slice(),
             "call {call}"
         );
+        assert_eq!(rt; came.status, Status::DepotFault, "call {call}");
     }
-    panic!(rt; "each run had a call that failed")
-}
-
-// Events that go through three iterations, each begun before the one before it is done.
-const WHOLE: Row<'static> = Row {
-    words: "replay tally --parts 2",
-    input: "feed 1 0 0\nfeed 1 1 0\nfinal 1 0\nfeed 2 0 0\nfeed 2 0 1\nfeed 1 0 1\nfeed 1 1 1\nfinal 1 1\nfeed 2 1 0\nfinal 2 0\nfeed 3 0 1\nfeed 2 1 1\nfinal 2 1\nfeed 3 0 0\nfeed 3 1 0\nfinal 3 0\nfeed 3 1 1\nfinal 3 1\nedges\n0 1\n",
-    step: 7,
-    out: "lumos tally vertices 2 edges 1 parts 2\nfinal 0 0\n0 0\nfinal 0 1\n1 0\nfinal 1 0\n0 0\nfinal 1 1\n1 1\nfinal 2 0\n0 0\nfinal 2 1\n1 2\nfinal 3 0\n0 0\nfinal 3 1\n1 3\nevents 18\n",
-    ..ROW
-};
-
-const REPLAYS: [Row<'static>; 3] = [
-    WHOLE,
-    Row {
-        input: "# none\n\nedges",
-        out: "lumos tally vertices 0 edges 0 parts 2\nfinal 0 0\nfinal 0 1\nevents 0\n",
-        ..WHOLE
-    },
-    Row {
-        room: 9,
-        status: Status::WriteFault,
-        out: "lumos tal",
-        err: "lumos: write fault\n",
-        ..WHOLE
-    },
-];
-
-#[test]
-fn replays_show_the_final_values(rt: HostRuntime) -> Result<(), Fail> {
-    check_all(&rt, rt.alloc(), &REPLAYS)
+    let mut depot = MemDepot::new(rt.alloc(), &[whole.calls().saturating_add(1)])
+        .ok()
+        .expect(&rt, "memory");
+    check_over(&rt, rt.alloc(), &row, &mut depot)
 }

@@ -2,12 +2,12 @@
 ghost use Rattle.std.specs.Prelude.{◌≡◌, ◌≤◌, ◌<◌, IfSome, None};
 ghost use Rattle.grid_build.specs.Built.{parts_of};
 
+use crate::commands::{check_files, five_files};
 use edge_text::{InputFault, InputWhat, TextLimits};
 use grid_build::{BuildFault, BuildOptions, PartsChoice, build};
 use grid_format::GridInfo;
 use lumos_depot::{Depot, FileKind, MemDepot, MemSource, Source};
 use std::alloc::Global;
-use std::process::Abort;
 use std::test::Fail;
 
 // Two parts, with limits that a test may pass.
@@ -58,58 +58,28 @@ fn a_grid_has_its_bytes(rt: HostRuntime) -> Result<(), Fail> {
         edges: 2,
     };
     assert_eq!(rt; built, Ok(info));
-    assert_eq!(rt;
-        depot.file(FileKind::Meta),
-        b"LUMOSGRD\x01\0\0\0\x02\0\0\0\x05\0\0\0\0\0\0\0\x02\0\0\0\0\0\0\0\0\0\0\0\0\0\0\0\x01\0\0\0\0\0\0\0\x01\0\0\0\0\0\0\0\0\0\0\0\0\0\0\0".as_slice()
-    );
-    assert_eq!(rt;
-        depot.file(FileKind::Primary),
-        b"\x03\0\0\0\x01\0\0\0\x01\0\0\0\0\0\0\0\x04\0\0\0\x01\0\0\0".as_slice()
-    );
-    assert_eq!(rt;
-        depot.file(FileKind::Secondary),
-        b"\x03\0\0\0\x01\0\0\0\x01\0\0\0".as_slice()
-    );
-    assert_eq!(rt;
-        depot.file(FileKind::Info),
-        b"\x01\0\0\0\x01\0\0\0\0\0\0\0\0\0\0\0\0\0\0\0\0\0\0\0\0\0\0\0\0\0\0\0\0\0\0\0\x01\0\0\0\x01\0\0\0\0\0\0\0\0\0\0\0\0\0\0\0\0\0\0\0".as_slice()
-    );
-    assert_eq!(rt; depot.file(FileKind::Spool), b"".as_slice());
-    assert_eq!(rt; depot.stored_of(FileKind::Spool), 24);
-    assert_eq!(rt; depot.stored_of(FileKind::Primary), 24);
+    check_files(&rt, &depot, &five_files());
+    for (kind, stored) in [
+        (FileKind::Spool, 24),
+        (FileKind::Primary, 24),
+        (FileKind::Secondary, 12),
+    ] {
+        assert_eq!(rt; depot.stored_of(kind), stored, "{kind:?}");
+    }
     assert_eq!(rt; depot.taken_of(FileKind::Primary), 12);
-    assert_eq!(rt; depot.stored_of(FileKind::Secondary), 12);
     Ok(())
 }
 
-// Builds over a grid that is there, and checks the fault and that the grid stays.
-fn refuse(
-    rt: &impl Abort,
-    alloc: Global,
-    text: &[u8],
-    fails: &[u64],
-    fault: BuildFault,
-) -> Result<(), Fail> {
-    let mut input = MemSource::new(alloc, text, 5, fails)
-        .ok()
-        .expect(rt, "memory");
-    let mut depot = MemDepot::new(alloc, &[]).ok().expect(rt, "memory");
-    assert_eq!(rt; depot.put_file(alloc, FileKind::Meta, b"old"), Ok(()));
-    assert_eq!(rt; depot.put_file(alloc, FileKind::Primary, b"old"), Ok(()));
-    assert_eq!(rt; depot.put_file(alloc, FileKind::Secondary, b"old"), Ok(()));
-    assert_eq!(rt; depot.put_file(alloc, FileKind::Info, b"old"), Ok(()));
-    let built = build_in(alloc, &mut input, &mut depot, &OPTIONS);
-    assert_eq!(rt; built, Err(fault), "{fault:?}");
-    for kind in [
-        FileKind::Meta,
-        FileKind::Primary,
-        FileKind::Secondary,
-        FileKind::Info,
-    ] {
-        assert_eq!(rt; depot.file(kind), b"old".as_slice(), "{kind:?} {fault:?}");
-    }
-    Ok(())
-}
+// The four files of a grid, which lies there from before.
+const OLD_FILES: [(FileKind, &[u8]); 4] = [
+    (FileKind::Meta, b"old"),
+    (FileKind::Primary, b"old"),
+    (FileKind::Secondary, b"old"),
+    (FileKind::Info, b"old"),
+];
+
+// A text, the reads that fail, and the fault.
+type Row<'a> = (&'a [u8], &'a [u64], BuildFault);
 
 #[test]
 fn a_fault_of_the_input_leaves_the_grid(rt: HostRuntime) -> Result<(), Fail> {
@@ -117,10 +87,32 @@ fn a_fault_of_the_input_leaves_the_grid(rt: HostRuntime) -> Result<(), Fail> {
         line: 2,
         what: InputWhat::MissingTarget,
     });
-    refuse(&rt, rt.alloc(), b"0 1\n7\n", &[], faulty)?;
-    let many = BuildFault::TooManyEdges { limit: 3 };
-    refuse(&rt, rt.alloc(), b"0 1\n1 2\n2 3\n3 4\n", &[], many)?;
-    let long = BuildFault::InputTooLong { limit: 20 };
-    refuse(&rt, rt.alloc(), b"# more than 20 bytes\n", &[], long)?;
-    refuse(&rt, rt.alloc(), b"0 1\n1 2\n", &[2], BuildFault::Read)
+    let rows: [Row; 4] = [
+        (b"0 1\n7\n", &[], faulty),
+        (
+            b"0 1\n1 2\n2 3\n3 4\n",
+            &[],
+            BuildFault::TooManyEdges { limit: 3 },
+        ),
+        (
+            b"# more than 20 bytes\n",
+            &[],
+            BuildFault::InputTooLong { limit: 20 },
+        ),
+        (b"0 1\n1 2\n", &[2], BuildFault::Read),
+    ];
+    for (text, fails, fault) in rows {
+        let mut input = MemSource::new(rt.alloc(), text, 5, fails)
+            .ok()
+            .expect(&rt, "memory");
+        let mut depot = MemDepot::new(rt.alloc(), &[]).ok().expect(&rt, "memory");
+        for (kind, bytes) in OLD_FILES {
+            assert!(rt; depot.put_file(rt.alloc(), kind, bytes).is_ok());
+        }
+        assert!(rt; depot.path().is_none());
+        let built = build_in(rt.alloc(), &mut input, &mut depot, &OPTIONS);
+        assert_eq!(rt; built, Err(fault), "{fault:?}");
+        check_files(&rt, &depot, &OLD_FILES);
+    }
+    Ok(())
 }

@@ -5,6 +5,7 @@ ghost use Rattle.grid_format.specs.Heads.{IsHead};
 ghost use Rattle.grid_format.specs.Writing.{IsMeta};
 
 use grid_format::{BlockTable, GridFault, GridInfo, read_head, write_meta};
+use lumos_base::NoMemory;
 use lumos_depot::{Depot, DepotFault, FileKind, MemDepot};
 use std::alloc::Global;
 use std::test::Fail;
@@ -47,87 +48,90 @@ fn write_head<D: Depot>(depot: &mut D, info: GridInfo, counts: &[u64]) -> Result
 }
 
 // A byte of Meta that is changed, the byte in its place, and the fault that is found.
-const FAULTS: [(usize, u8, GridFault); 9] = [
-    (0, 0, GridFault::NotAGrid),
-    (8, 2, GridFault::WrongVersion { found: 2 }),
-    (
-        12,
-        0,
-        GridFault::BadMeta {
-            place: 12,
-            found: 0,
-        },
-    ),
-    (
-        19,
-        32,
-        GridFault::BadMeta {
-            place: 16,
-            found: 536870917,
-        },
-    ),
-    (
-        20,
-        1,
-        GridFault::BadMeta {
-            place: 20,
-            found: 1,
-        },
-    ),
-    (
-        12,
-        1,
-        GridFault::BadLength {
-            file: FileKind::Meta,
-            want: 40,
-            found: 64,
-        },
-    ),
-    (
-        24,
-        1,
-        GridFault::BadMeta {
-            place: 48,
-            found: 1,
-        },
-    ),
-    (
-        40,
-        0,
-        GridFault::BadMeta {
-            place: 24,
-            found: 2,
-        },
-    ),
-    (
-        24,
-        2,
-        GridFault::BadLength {
-            file: FileKind::Info,
-            want: 60,
-            found: 59,
-        },
-    ),
-];
+fn faults() -> [(usize, u8, GridFault); 9] {
+    [
+        (0, 0, GridFault::NotAGrid),
+        (8, 2, GridFault::WrongVersion { found: 2 }),
+        (
+            12,
+            0,
+            GridFault::BadMeta {
+                place: 12,
+                found: 0,
+            },
+        ),
+        (
+            19,
+            32,
+            GridFault::BadMeta {
+                place: 16,
+                found: 536870917,
+            },
+        ),
+        (
+            20,
+            1,
+            GridFault::BadMeta {
+                place: 20,
+                found: 1,
+            },
+        ),
+        (
+            12,
+            1,
+            GridFault::BadLength {
+                file: FileKind::Meta,
+                want: 40,
+                found: 64,
+            },
+        ),
+        (
+            24,
+            1,
+            GridFault::BadMeta {
+                place: 48,
+                found: 1,
+            },
+        ),
+        (
+            40,
+            0,
+            GridFault::BadMeta {
+                place: 24,
+                found: 2,
+            },
+        ),
+        (
+            24,
+            2,
+            GridFault::BadLength {
+                file: FileKind::Info,
+                want: 60,
+                found: 59,
+            },
+        ),
+    ]
+}
+
+// Puts the files beside Meta, with so many bytes in Info.
+fn put_files(alloc: Global, depot: &mut MemDepot, info: usize) -> Result<(), NoMemory>
+    ensures { depot.new.path ≡ depot.old.path }
+{
+    depot.put_file(alloc, FileKind::Primary, &[0; 24])?;
+    depot.put_file(alloc, FileKind::Secondary, &SECONDARY)?;
+    depot.put_file(alloc, FileKind::Info, &[0; 60][..info.min(60)])
+}
 
 #[test]
 fn a_head_is_read_and_its_faults_are_found(rt: HostRuntime) -> Result<(), Fail> {
-    for (place, byte, fault) in FAULTS {
+    for (place, byte, fault) in faults() {
         let mut meta = META;
-        meta[place] = byte;
+        if let Some(changed) = meta.get_mut(place) {
+            *changed = byte;
+        }
         let mut depot = MemDepot::new(rt.alloc(), &[]).ok().expect(&rt, "memory");
         assert!(rt; depot.put_file(rt.alloc(), FileKind::Meta, &meta).is_ok());
-        assert!(rt;
-            depot
-                .put_file(rt.alloc(), FileKind::Primary, &[0; 24])
-                .is_ok()
-        );
-        assert!(rt;
-            depot
-                .put_file(rt.alloc(), FileKind::Secondary, &SECONDARY)
-                .is_ok()
-        );
-        assert!(rt; depot.put_file(rt.alloc(), FileKind::Info, &[0; 59]).is_ok());
+        assert!(rt; put_files(rt.alloc(), &mut depot, 59).is_ok());
         match read_grid(rt.alloc(), &mut depot) {
             Ok(_) => panic!(rt; "byte {place}"),
             Err(found) => assert_eq!(rt; found, fault, "byte {place}"),
@@ -147,43 +151,21 @@ fn a_head_that_was_written_is_read(rt: HostRuntime) -> Result<(), Fail> {
     let mut depot = MemDepot::new(rt.alloc(), &[]).ok().expect(&rt, "memory");
     assert!(rt; write_head(&mut depot, info, &[0, 1, 1, 0]).is_ok());
     assert_eq!(rt; depot.file(FileKind::Meta), META.as_slice());
-    assert!(rt;
-        depot
-            .put_file(rt.alloc(), FileKind::Primary, &[0; 24])
-            .is_ok()
-    );
-    assert!(rt; depot.put_file(rt.alloc(), FileKind::Info, &[0; 60]).is_ok());
+    assert!(rt; put_files(rt.alloc(), &mut depot, 60).is_ok());
     depot.detach();
-    match read_grid(rt.alloc(), &mut depot) {
-        Ok(_) => panic!(rt; "no Secondary"),
-        Err(found) => assert_eq!(rt;
-            found,
-            GridFault::BadLength {
-                file: FileKind::Secondary,
-                want: 12,
-                found: 0,
-            }
-        ),
+    let Ok((head, Some(table))) = read_grid(rt.alloc(), &mut depot) else {
+        panic!(rt; "no table");
+    };
+    assert_eq!(rt; head, info);
+    assert_eq!(rt; head.parts, 2);
+    for (i, j, count, place) in [(0, 0, 0, 0), (1, 0, 1, 0), (0, 1, 1, 12), (1, 1, 0, 24)] {
+        assert_eq!(rt;
+            (table.count(i, j), table.primary_place(i, j)),
+            (count, place)
+        );
     }
-    assert!(rt;
-        depot
-            .put_file(rt.alloc(), FileKind::Secondary, &SECONDARY)
-            .is_ok()
-    );
-    depot.detach();
-    match read_grid(rt.alloc(), &mut depot) {
-        Ok((head, Some(table))) => {
-            assert_eq!(rt; head, info);
-            assert_eq!(rt; head.parts, 2);
-            for (i, j, count, place) in [(0, 0, 0, 0), (1, 0, 1, 0), (0, 1, 1, 12), (1, 1, 0, 24)] {
-                assert_eq!(rt; table.count(i, j), count);
-                assert_eq!(rt; table.primary_place(i, j), place);
-            }
-            for (i, j, place) in [(0, 0, 0), (1, 0, 0), (1, 1, 12)] {
-                assert_eq!(rt; table.secondary_place(i, j), place);
-            }
-        }
-        _ => panic!(rt; "no table"),
+    for (i, j, place) in [(0, 0, 0), (1, 0, 0), (1, 1, 12)] {
+        assert_eq!(rt; table.secondary_place(i, j), place);
     }
     Ok(())
 }

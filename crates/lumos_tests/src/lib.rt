@@ -13,6 +13,8 @@ mod engines;
 #[cfg(test)]
 mod events;
 #[cfg(test)]
+mod five;
+#[cfg(test)]
 mod grids;
 #[cfg(test)]
 mod heads;

@@ -182,20 +182,3 @@ fn pieces_read_as_one_text(rt: HostRuntime) -> Result<(), Fail> {
     assert_eq!(rt; places[1], edge(10, 5, 1));
     Ok(())
 }
-
-// The kinds of faults in the order of their numbers.
-#[test]
-fn faults_have_their_numbers(rt: HostRuntime) {
-    let kinds = [
-        NotANumber,
-        MissingTarget,
-        TooManyFields,
-        NumberTooLarge,
-        VertexTooLarge,
-        WeightTooLarge,
-        VertexBeyond,
-    ];
-    for (index, kind) in kinds.into_iter().enumerate() {
-        assert_eq!(rt; kind as usize, index + 1, "{kind:?}");
-    }
-}

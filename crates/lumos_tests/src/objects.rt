@@ -44,40 +44,49 @@ fn go_through<D: Depot>(depot: &mut D, buf: &mut [u8; 2]) -> Result<u64, DepotFa
     depot.len(FileKind::Spool)
 }
 
-// The calls that fail; what is answered, the file, the path, the bytes taken and stored, the number of calls.
+// The calls that fail, and what is answered; the file and the path; the bytes taken and stored, and the number of calls.
 type Row<'a> = (
     &'a [u64],
     Result<u64, DepotFault>,
     &'a str,
-    &'a str,
-    u64,
-    u64,
-    u64,
+    Option<&'a [u8]>,
+    [u64; 3],
 );
+
+fn rows() -> [Row<'static>; 6] {
+    let failed = Err(DepotFault::Failed);
+    [
+        (&[], Ok(4), "\0ab\0", Some(b"d"), [2, 2, 5]),
+        (&[1], failed, "", None, [0, 0, 1]),
+        (&[2], failed, "", Some(b"d"), [0, 0, 2]),
+        (&[3], failed, "\0\0\0\0", Some(b"d"), [0, 0, 3]),
+        (&[4], failed, "\0ab\0", Some(b"d"), [0, 2, 4]),
+        (&[5], failed, "\0ab\0", Some(b"d"), [2, 2, 5]),
+    ]
+}
 
 #[test]
 fn a_failing_call_changes_nothing(rt: HostRuntime) -> Result<(), Fail> {
-    let rows: [Row; 6] = [
-        (&[], Ok(4), "\0ab\0", "d", 2, 2, 5),
-        (&[1], Err(DepotFault::Failed), "", "", 0, 0, 1),
-        (&[2], Err(DepotFault::Failed), "", "d", 0, 0, 2),
-        (&[3], Err(DepotFault::Failed), "\0\0\0\0", "d", 0, 0, 3),
-        (&[4], Err(DepotFault::Failed), "\0ab\0", "d", 0, 2, 4),
-        (&[5], Err(DepotFault::Failed), "\0ab\0", "d", 2, 2, 5),
-    ];
-    for (fails, answer, file, path, taken, stored, calls) in rows {
+    for (fails, answer, file, path, counts) in rows() {
         let mut depot = MemDepot::new(rt.alloc(), fails).ok().expect(&rt, "memory");
         let mut buf = [0; 2];
         assert_eq!(rt; go_through(&mut depot, &mut buf), answer, "{fails:?}");
         assert_eq!(rt; depot.file(FileKind::Spool), file.as_bytes(), "{fails:?}");
-        assert_eq!(rt; depot.path().unwrap_or(b""), path.as_bytes(), "{fails:?}");
-        assert_eq!(rt; depot.taken_of(FileKind::Spool), taken, "{fails:?}");
-        assert_eq!(rt; depot.stored_of(FileKind::Spool), stored, "{fails:?}");
-        depot.detach();
-        assert!(rt; depot.path().is_none());
-        assert!(rt; depot.put_file(rt.alloc(), FileKind::Info, b"xy").is_ok());
-        assert_eq!(rt; depot.file(FileKind::Info), b"xy".as_slice());
-        assert_eq!(rt; depot.calls(), calls, "{fails:?}");
+        assert_eq!(rt; depot.path(), path, "{fails:?}");
+        let taken = depot.taken_of(FileKind::Spool);
+        let stored = depot.stored_of(FileKind::Spool);
+        assert_eq!(rt; [taken, stored, depot.calls()], counts, "{fails:?}");
     }
+    Ok(())
+}
+
+#[test]
+fn a_file_can_be_put_and_a_directory_left(rt: HostRuntime) -> Result<(), Fail> {
+    let mut depot = MemDepot::new(rt.alloc(), &[]).ok().expect(&rt, "memory");
+    assert_eq!(rt; go_through(&mut depot, &mut [0; 2]), Ok(4));
+    depot.detach();
+    assert!(rt; depot.path().is_none());
+    assert!(rt; depot.put_file(rt.alloc(), FileKind::Info, b"xy").is_ok());
+    assert_eq!(rt; depot.file(FileKind::Info), b"xy".as_slice());
     Ok(())
 }

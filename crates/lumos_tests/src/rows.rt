@@ -7,11 +7,12 @@ use std::alloc::Global;
 use std::process::Abort;
 use std::test::Fail;
 
-// A command: its words with a space between two, the input with the bytes that one read gives and the reads that fail, the
-// calls of the depot that fail, the room of `out` and of `err`; and the status, the text, the fault line and the directory
-// that is attached.
+// A command by a name: its words with a space between two, the input with the bytes that one read gives and the reads that
+// fail, the calls of the depot that fail, the room of `out` and of `err`; and the status, the text, the fault line and the
+// directory that is attached.
 #[derive(Clone, Copy, Drop)]
 pub struct Row<'a> {
+    pub name: &'a str,
     pub words: &'a str,
     pub input: &'a str,
     pub step: usize,
@@ -25,14 +26,15 @@ pub struct Row<'a> {
     pub path: Option<&'a str>,
 }
 
-// A command that writes nothing anywhere.
+// A command that attaches nothing, writes nothing and is done.
 pub const ROW: Row<'static> = Row {
+    name: "",
     words: "",
     input: "",
     step: 5,
     fails: &[],
     depot_fails: &[],
-    room: 600,
+    room: 900,
     err_room: 99,
     status: Status::Done,
     out: "",
@@ -40,7 +42,43 @@ pub const ROW: Row<'static> = Row {
     path: None,
 };
 
-pub fn words_of(alloc: Global, text: &str) -> Result<Vec<String>, Fail> {
+// The same in the working directory.
+pub const HERE: Row<'static> = Row {
+    path: Some("."),
+    ..ROW
+};
+
+// What came of a command.
+#[derive(Drop)]
+pub struct Came {
+    pub status: Status,
+    pub out: MemSink,
+    pub err: MemSink,
+}
+
+// The name, the words, the input, the text and the fault line, which a text has in this order with `|` between two.
+fn five_of(text: &str) -> Option<(&str, &str, &str, &str, &str)> {
+    let (name, rest) = text.split_once('|')?;
+    let (words, rest) = rest.split_once('|')?;
+    let (input, rest) = rest.split_once('|')?;
+    let (out, err) = rest.split_once('|')?;
+    Some((name, words, input, out, err))
+}
+
+// The row of such a text, with the rest from a base.
+pub fn row_of<'a>(rt: &impl Abort, base: &Row<'a>, text: &'a str) -> Row<'a> {
+    let (name, words, input, out, err) = five_of(text).expect(rt, "a row of five texts");
+    Row {
+        name,
+        words,
+        input,
+        out,
+        err,
+        ..*base
+    }
+}
+
+fn words_of(alloc: Global, text: &str) -> Result<Vec<String>, Fail> {
     let mut words = Vec::new(alloc);
     if text.is_empty() {
         return Ok(words);
@@ -51,13 +89,13 @@ pub fn words_of(alloc: Global, text: &str) -> Result<Vec<String>, Fail> {
     Ok(words)
 }
 
-// Does a command over any depot, and compares its status and its texts.
-pub fn check_texts<D: Depot>(
+// Does a command over any depot.
+pub fn perform<D: Depot>(
     rt: &impl Abort,
     alloc: Global,
     row: &Row,
     depot: &mut D,
-) -> Result<(), Fail>
+) -> Result<Came, Fail>
     requires { D.attached depot.old ≡ None }
 {
     let words = words_of(alloc, row.words)?;
@@ -69,10 +107,14 @@ pub fn check_texts<D: Depot>(
         .ok()
         .expect(rt, "memory");
     let status = lumos(alloc, &words, &mut input, depot, &mut out, &mut err);
-    assert_eq!(rt; err.bytes(), row.err.as_bytes(), "{}", row.words);
-    assert_eq!(rt; out.bytes(), row.out.as_bytes(), "{}", row.words);
-    assert_eq!(rt; status, row.status, "{}", row.words);
-    Ok(())
+    Ok(Came { status, out, err })
+}
+
+// Compares the status and the texts.
+pub fn compare(rt: &impl Abort, row: &Row, came: &Came) {
+    assert_eq!(rt; came.err.bytes(), row.err.as_bytes(), "{}", row.name);
+    assert_eq!(rt; came.out.bytes(), row.out.as_bytes(), "{}", row.name);
+    assert_eq!(rt; came.status, row.status, "{}", row.name);
 }
 
 // Does a command over files that may be there already, and compares what comes of it.
@@ -84,24 +126,34 @@ pub fn check_over(
 ) -> Result<(), Fail>
     requires { depot.old.path ≡ None }
 {
-    check_texts(rt, alloc, row, depot)?;
-    let path = row.path.map(|path| path.as_bytes());
-    assert_eq!(rt; depot.path(), path, "{}", row.words);
+    let came = perform(rt, alloc, row, depot)?;
+    compare(rt, row, &came);
+    assert_eq!(rt;
+        depot.path(),
+        row.path.map(|path| path.as_bytes()),
+        "{}",
+        row.name
+    );
     Ok(())
 }
 
-// The same over empty files, which it gives too.
-pub fn check(rt: &impl Abort, alloc: Global, row: &Row) -> Result<MemDepot, Fail> {
+// The same over empty files.
+pub fn check(rt: &impl Abort, alloc: Global, row: &Row) -> Result<(), Fail> {
     let mut depot = MemDepot::new(alloc, row.depot_fails)
         .ok()
         .expect(rt, "memory");
-    check_over(rt, alloc, row, &mut depot)?;
-    Ok(depot)
+    check_over(rt, alloc, row, &mut depot)
 }
 
-pub fn check_all(rt: &impl Abort, alloc: Global, rows: &[Row]) -> Result<(), Fail> {
-    for row in rows {
-        check(rt, alloc, row)?;
+// Does each command of a table. The table has the texts of its rows with `@` between two, and the rest from the base.
+pub fn check_table<'a>(
+    rt: &impl Abort,
+    alloc: Global,
+    base: &Row<'a>,
+    table: &'a str,
+) -> Result<(), Fail> {
+    for text in table.split('@') {
+        check(rt, alloc, &row_of(rt, base, text))?;
     }
     Ok(())
 }

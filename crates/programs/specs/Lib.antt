@@ -14,3 +14,4 @@ pub mod Spreading
 pub mod SpreadingLaws
 pub mod Tally
 pub mod TallyLaws
+pub mod Walks

@@ -2,6 +2,7 @@
 #![tactic(auto)]
 
 mod components;
+mod meaning;
 mod numbers;
 mod pagerank;
 mod paths;
@@ -10,6 +11,7 @@ mod spreading;
 mod tally;
 
 pub use crate::components::{Components, Label};
+pub use crate::meaning::{components_are_least, paths_are_least, still_components, still_paths};
 pub use crate::pagerank::{PageRank, Rank};
 pub use crate::paths::{Cost, Paths};
 pub use crate::seeds::{Seed, SeedFault, Seeds};

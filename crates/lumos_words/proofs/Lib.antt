@@ -7,3 +7,4 @@ pub mod ParseLemmas
 pub mod NumberLemmas
 pub mod SeedLemmas
 pub mod Saying
+pub mod RangeLemmas

@@ -21,10 +21,9 @@ use Rattle.grid_build.specs.declared.options.BuildFault.TheVariants as build_fau
 use Rattle.grid_build.specs.Outside.{LeavesRuns as BuildLeaves}
 use Rattle.grid_build.proofs.Building.{AreLimits, list_within}
 use Rattle.lumos_depot.proofs.StepLemmas.{rose_then}
-use Rattle.lumos_report.specs.declared.records.Why.TheVariants.{Still, Limit}
 use Rattle.lumos_report.specs.declared.records.Kind.{Kind}
 use Rattle.lumos_report.specs.declared.records.Kind.TheVariants.{Full, Fed}
-use Rattle.early_engine.specs.Passes.{file_of, kind_of, primary_taken, secondary_taken}
+use Rattle.early_engine.specs.Passes.{file_of, kind_of}
 use Rattle.early_engine.specs.Runs.{Streams}
 use Rattle.early_engine.specs.declared.options.Mode.{Mode}
 use Rattle.lumos_top.specs.Answers.{Did, copied_bytes, did_build, did_run, done_with, ran_as, stated_parts}

@@ -181,7 +181,7 @@ CameTo r status.WriteFault = r ≡ Err (stop.Outside outside.Write)
 CameTo r status.Usage = (fault : UsageFault) × (r ≡ Err (stop.Refused (refuse.Usage fault)))
 CameTo r status.Input = ⊤
 CameTo r status.Limit = ⊤
-CameTo r status.Range = ⊤
+CameTo r status.Range = IsOk r
 CameTo r status.Grid = ⊤
 CameTo r status.Schedule = ⊤
 
@@ -206,7 +206,7 @@ came_refused (refuse.TooManyEvents limit) = tt
 came_refused (refuse.Illegal event why) = tt
 
 came : (r : Result Completed Stop) → CameTo r (end_status r)
-came (Ok (Run (Over iteration vertex))) = tt
+came (Ok (Run (Over iteration vertex))) = refl
 came (Ok (Run (Still iteration))) = (refl, refl)
 came (Ok (Run (Limit iteration))) = (refl, refl)
 came (Ok Build) = (refl, refl)

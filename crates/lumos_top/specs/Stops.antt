@@ -19,7 +19,6 @@ use Rattle.lumos_top.specs.declared.status.Status.{Status}
 use Rattle.lumos_top.specs.declared.status.Status.TheVariants as status
 use Rattle.lumos_top.specs.declared.status.Stop.{Stop}
 use Rattle.lumos_top.specs.declared.status.Stop.TheVariants as stop
-use Rattle.lumos_top.specs.declared.status.TooMany.{TooMany}
 use Rattle.lumos_top.specs.declared.status.TooMany.TheVariants.{Parts, Vertices}
 use Rattle.lumos_top.specs.declared.stream.StreamStop.{StreamStop}
 use Rattle.lumos_top.specs.declared.stream.StreamStop.TheVariants as stream

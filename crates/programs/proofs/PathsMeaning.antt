@@ -11,7 +11,7 @@ use Rattle.programs.specs.Paths.{cost_with, known, paths_program}
 use Rattle.programs.specs.Walks.{Leads, IsWalk, IsWalkWithin, cost_of, HasLeastCost, IsBestOf, IsBestWithin, IsBest}
 use Rattle.programs.specs.declared.paths.Cost.{Cost}
 use Rattle.programs.proofs.SpreadLemmas.{Spreads, GivenBy, number_falls_to, reaches, came}
-use Rattle.programs.proofs.StillLemmas.{StoodStill, stood_still, number_same}
+use Rattle.programs.proofs.StillLemmas.{StoodStill, stood_still, still_low, number_same}
 use Rattle.programs.proofs.WalkLemmas.{walk_on, walk_longer, walk_none, walk_cheap}
 
 abbrev number : Cost → ℕ
@@ -181,9 +181,12 @@ module _ (start : ℕ) (edges : List Edge) where
           known_along s low still walk e.target.0 v (All-tail (Contains edges) e walk along) leads.1 (omega arith)
 
       -- where a run ends still, they are the least ones over all walks
-      pub cost_still : (limit t v : ℕ) → t ≤ 1000000 → ending (paths_program start) edges n limit ≡ still_in t → IsBest edges start v (known (cost_at t v))
-      cost_still limit t v low ends = by_test (cost_at t v == 18446744073709551615) refl
+      pub cost_still : (limit t v : ℕ) → limit ≤ 1000000 → ending (paths_program start) edges n limit ≡ still_in t → IsBest edges start v (known (cost_at t v))
+      cost_still limit t v few ends = by_test (cost_at t v == 18446744073709551615) refl
         where
+          low : t ≤ 1000000
+          low = let last = still_low (paths_program start) edges n limit t ends in omega arith
+
           stood : StoodStill (paths_program start) edges n t
           stood = stood_still (paths_program start) edges n limit t ends
 
@@ -211,6 +214,7 @@ module _ (start : ℕ) (edges : List Edge) where
               let most = eqb-true (cost_at t v) 18446744073709551615 is in
               let begins = start_zero (suc stood.before) in
               let next = stood.next in
+              let last = low in
               let ends_known = known_along stood.before (omega arith) still walk start v h.along h.leads (omega arith) in
               let here = now in
               omega arith

@@ -44,14 +44,14 @@ pub fn paths_are_least()
         → (cost : ℕ) → IsBestWithin t edges start v (Some cost) → cost < 2 ^ 52 }
 {}
 
-/// The law of a run of `Paths` that ends still within a million iterations: then the cost of v is the least cost over all
+/// The law of a run of `Paths` of at most a million iterations that ends still: then the cost of v is the least cost over all
 /// walks from the start to v, if there are any. The call itself does nothing.
 pub fn still_paths()
     ensures cost { (start : ℕ) (edges : List Edge) → All IsEdge edges → (n : ℕ) → All (λ e. e.source.0 < n) edges
-        → (limit t : ℕ) → t ≤ 1000000 → ending (paths_program start) edges n limit ≡ still_in t
+        → (limit t : ℕ) → limit ≤ 1000000 → ending (paths_program start) edges n limit ≡ still_in t
         → (v : ℕ) → IsBest edges start v (known (values (paths_program start) edges t v).cost) }
     ensures shown { (start : ℕ) (edges : List Edge) → All IsEdge edges → (n : ℕ) → All (λ e. e.source.0 < n) edges
-        → (limit t : ℕ) → t ≤ 1000000 → ending (paths_program start) edges n limit ≡ still_in t
+        → (limit t : ℕ) → limit ≤ 1000000 → ending (paths_program start) edges n limit ≡ still_in t
         → (v : ℕ) (best : Option ℕ) → IsBest edges start v best
         → (paths_program start).show (values (paths_program start) edges t v) ≡ cost_text best }
 {}

@@ -30,3 +30,5 @@ mod refusals;
 mod rows;
 #[cfg(test)]
 mod schedules;
+#[cfg(test)]
+mod walks;

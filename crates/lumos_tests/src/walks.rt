@@ -1,8 +1,8 @@
 // The values that runs show beside a list of all walks of at most four edges.
-use crate::rows::words_of;
+use crate::rows::{ROW, Row, perform};
 use lumos_base::Line;
-use lumos_depot::{MemDepot, MemSink, MemSource};
-use lumos_top::{Status, lumos};
+use lumos_depot::MemDepot;
+use lumos_top::Status;
 use std::alloc::Global;
 use std::process::Abort;
 use std::test::Fail;
@@ -34,37 +34,42 @@ struct Walk {
     cost: u64,
 }
 
-// All walks of at most so many edges: the empty ones, and then each of those with an edge less, gone on along each edge that
-// begins where it ends.
+// Each of these walks gone on along each edge that begins where it ends.
+fn gone_on(alloc: Global, walks: &[Walk], edges: &[Ends]) -> Result<Vec<Walk>, Fail> {
+    let mut longer = Vec::new(alloc);
+    for walk in walks {
+        for (source, target, weight) in edges {
+            if *source == walk.last {
+                longer.push(Walk {
+                    first: walk.first,
+                    last: *target,
+                    edges: walk.edges.saturating_add(1),
+                    cost: walk.cost.saturating_add(*weight),
+                })?;
+            }
+        }
+    }
+    Ok(longer)
+}
+
+// All walks of at most `MOST` edges, the empty ones first.
 fn all_walks(alloc: Global, vertices: u32, edges: &[Ends]) -> Result<Vec<Walk>, Fail> {
-    let mut walks = Vec::new(alloc);
+    let mut all = Vec::new(alloc);
+    let mut last = Vec::new(alloc);
     for vertex in 0..vertices {
-        walks.push(Walk {
+        last.push(Walk {
             first: vertex,
             last: vertex,
             edges: 0,
             cost: 0,
         })?;
     }
-    for length in 1..MOST + 1 {
-        for k in 0..walks.len() {
-            let walk = walks[k];
-            if walk.edges + 1 != length {
-                continue;
-            }
-            for (source, target, weight) in edges {
-                if *source == walk.last {
-                    walks.push(Walk {
-                        first: walk.first,
-                        last: *target,
-                        edges: length,
-                        cost: walk.cost + *weight,
-                    })?;
-                }
-            }
-        }
+    for _ in 0..MOST {
+        all.extend_from_slice(&last)?;
+        last = gone_on(alloc, &last, edges)?;
     }
-    Ok(walks)
+    all.extend_from_slice(&last)?;
+    Ok(all)
 }
 
 // The least cost of a walk of at most so many edges.
@@ -106,23 +111,27 @@ fn line_of(run: &Run, walks: &[Walk], vertex: u32, time: u32) -> Line {
 
 // Does a run, and compares each of its value lines with what the walks give.
 fn check(rt: &impl Abort, alloc: Global, run: &Run) -> Result<(), Fail> {
-    let words = words_of(alloc, run.words)?;
     let walks = all_walks(alloc, run.vertices, run.edges)?;
-    let mut input = MemSource::new(alloc, run.input.as_bytes(), 5, &[])
-        .ok()
-        .expect(rt, "memory");
     let mut depot = MemDepot::new(alloc, &[]).ok().expect(rt, "memory");
-    let mut out = MemSink::new(alloc, 600, &[]).ok().expect(rt, "memory");
-    let mut err = MemSink::new(alloc, 99, &[]).ok().expect(rt, "memory");
-    let status = lumos(alloc, &words, &mut input, &mut depot, &mut out, &mut err);
-    assert_eq!(rt; status, Status::Done, "{}", run.words);
-    let text = std::str::from_utf8(out.bytes()).ok().expect(rt, "text");
-    let mut lines = 0;
-    let mut time = 0;
-    let mut vertex = 0;
+    let row = Row {
+        name: run.words,
+        words: run.words,
+        input: run.input,
+        ..ROW
+    };
+    let came = perform(rt, alloc, &row, &mut depot)?;
+    assert_eq!(rt; came.status, Status::Done, "{}", run.words);
+    let text = std::str::from_utf8(came.out.bytes())
+        .ok()
+        .expect(rt, "text");
+    let mut lines = 0usize;
+    let mut time = 0u32;
+    let mut vertex = 0u32;
     for line in text.split('\n') {
         if line.starts_with("iteration") {
-            time = if line == "iteration 0" { 0 } else { time + 1 };
+            if line != "iteration 0" {
+                time = time.saturating_add(1);
+            }
             vertex = 0;
         } else if line.starts_with("lumos") || line.starts_with("still") || line.is_empty() {
             continue;
@@ -130,8 +139,8 @@ fn check(rt: &impl Abort, alloc: Global, run: &Run) -> Result<(), Fail> {
             assert!(rt; time <= MOST, "{}", run.words);
             let wanted = line_of(run, &walks, vertex, time);
             assert_eq!(rt; line.as_bytes(), wanted.bytes(), "{}", run.words);
-            vertex += 1;
-            lines += 1;
+            vertex = vertex.saturating_add(1);
+            lines = lines.saturating_add(1);
         }
     }
     assert_eq!(rt; lines, run.lines, "{}", run.words);

@@ -8,7 +8,7 @@ use Rattle.lumos_depot.specs.declared.depot.FileKind.{FileKind}
 use Rattle.lumos_depot.specs.declared.depot.FileKind.TheVariants.{Primary, Secondary}
 use Rattle.grid_build.specs.Copied.{CopiesAll, HasCopied}
 use Rattle.lumos_depot.specs.Steps.{RoseBy}
-use Rattle.grid_build.proofs.InfoBytes.{length-overwritten, written_next, written_none}
+use Rattle.lumos_depot.proofs.Overwrites.{length-overwritten, written_next, written_none}
 use Rattle.lumos_depot.proofs.StepLemmas.{rose_as, told_both, told_by, told_more, told_same, told_some}
 
 told_each : (told : Option (List ℕ)) (P : List ℕ → Type 0) → ((file : List ℕ) → P file) → IfSome told P

@@ -14,7 +14,8 @@ use Rattle.lumos_base.specs.declared.records.OutInfo.{OutInfo}
 use Rattle.lumos_depot.specs.Files.{overwritten}
 use Rattle.grid_build.specs.Passes.{IsSpool}
 use Rattle.grid_build.specs.Tallied.{HasTallied, HasWritten}
-use Rattle.grid_build.proofs.InfoBytes.{length-infos, length-overwritten, written_next, written_none}
+use Rattle.grid_build.proofs.InfoBytes.{length-infos}
+use Rattle.lumos_depot.proofs.Overwrites.{length-overwritten, written_next, written_none}
 use Rattle.lumos_depot.proofs.StepLemmas.{told_by, told_more}
 use Rattle.grid_build.proofs.TallyLemmas.{tallied_list}
 

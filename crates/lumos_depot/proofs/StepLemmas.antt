@@ -1,10 +1,10 @@
 -- One step over a depot after another.
-use Rattle.std.proofs.Common.{◌≡◌, ◌≤◌, ◌+◌, ℕ, List, Option, Some, None, refl, ◌∙◌, ap, subst, arith}
+use Rattle.std.proofs.Common.{◌≡◌, ◌≢◌, ◌≤◌, ◌+◌, ℕ, Bool, true, false, List, Option, Some, None, refl, sym, ◌∙◌, ap, subst, arith}
 use Rattle.std.specs.Prelude.{IfSome}
 use Rattle.std.specs.Option.{option_map}
 use Rattle.lumos_depot.specs.Files.{Same, SameBut, raised}
 use Rattle.lumos_depot.specs.declared.depot.FileKind.{FileKind}
-use Rattle.lumos_depot.specs.Steps.{Moves, Reads, RoseBy, Stores}
+use Rattle.lumos_depot.specs.Steps.{Moves, Reads, RoseBy, SameOff, Stores, Touches}
 
 pub same_then : {A : Type 0} (x y z : FileKind → A) → Same x y → Same y z → Same x z
 same_then x y z first second = λ kind. second kind ∙ first kind
@@ -65,6 +65,71 @@ module _ {D : Type 0} (h : D → FileKind → Option (List ℕ)) (t s : D → Fi
   call_moves from to x y attached contents taken stored later =
       record { attached = attached; contents = contents; taken = same_all_but from (t x) (t y) taken; stored = stored; later = later }
 
+-- a file that isn't named isn't one that is
+off_named : (named : FileKind → Bool) (kind other : FileKind) → named kind ≡ true → named other ≡ false → other ≢ kind
+off_named named kind other is isnt same = let both : true ≡ false = sym is ∙ ap named (sym same) ∙ isnt in absurd (cc)
+
+pub same_off : {A : Type 0} (named : FileKind → Bool) (x y : FileKind → A) → ((kind : FileKind) → y kind ≡ x kind) → SameOff named x y
+same_off named x y same = λ kind isnt. same kind
+
+pub but_off : {A : Type 0} (named : FileKind → Bool) (k : FileKind) (x y : FileKind → A) → named k ≡ true → SameBut k x y → SameOff named x y
+but_off named k x y is same = λ kind isnt. same kind (off_named named k kind is isnt)
+
+pub off_then : {A : Type 0} (named : FileKind → Bool) (x y z : FileKind → A) → SameOff named x y → SameOff named y z → SameOff named x z
+off_then named x y z first second = λ kind isnt. second kind isnt ∙ first kind isnt
+
+module _ {D : Type 0} (h : D → FileKind → Option (List ℕ)) (t s : D → FileKind → ℕ) (f : D → ℕ) (a : D → Option (List ℕ)) (takes stores : FileKind → Bool) where
+  -- nothing was done yet
+  pub touches_none : (x : D) → Touches h t s f a takes stores x x
+  touches_none x = record { attached = refl; contents = λ kind isnt. refl; taken = λ kind isnt. refl; stored = λ kind isnt. refl; later = omega arith }
+
+  pub touches_then : (x y z : D) → Touches h t s f a takes stores x y → Touches h t s f a takes stores y z → Touches h t s f a takes stores x z
+  touches_then x y z first second = record {
+    attached = second.attached ∙ first.attached;
+    contents = off_then stores (h x) (h y) (h z) first.contents second.contents;
+    taken = off_then takes (t x) (t y) (t z) first.taken second.taken;
+    stored = off_then stores (s x) (s y) (s z) first.stored second.stored;
+    later = let l = first.later in let m = second.later in omega arith;
+  }
+
+  pub reads_touches : (from : FileKind) (x y : D) → takes from ≡ true → Reads h t s f a from x y → Touches h t s f a takes stores x y
+  reads_touches from x y may reads = record {
+    attached = reads.attached;
+    contents = same_off stores (h x) (h y) reads.contents;
+    taken = but_off takes from (t x) (t y) may reads.taken;
+    stored = same_off stores (s x) (s y) reads.stored;
+    later = reads.later;
+  }
+
+  pub stores_touches : (into : FileKind) (x y : D) → stores into ≡ true → Stores h t s f a into x y → Touches h t s f a takes stores x y
+  stores_touches into x y may steps = record {
+    attached = steps.attached;
+    contents = but_off stores into (h x) (h y) may steps.contents;
+    taken = same_off takes (t x) (t y) steps.taken;
+    stored = but_off stores into (s x) (s y) may steps.stored;
+    later = steps.later;
+  }
+
+  pub moves_touches : (from into : FileKind) (x y : D) → takes from ≡ true → stores into ≡ true → Moves h t s f a from into x y → Touches h t s f a takes stores x y
+  moves_touches from into x y may may_store moves = record {
+    attached = moves.attached;
+    contents = but_off stores into (h x) (h y) may_store moves.contents;
+    taken = but_off takes from (t x) (t y) may moves.taken;
+    stored = but_off stores into (s x) (s y) may_store moves.stored;
+    later = moves.later;
+  }
+
+-- a step that touches fewer files
+pub touches_more : {D : Type 0} (h : D → FileKind → Option (List ℕ)) (t s : D → FileKind → ℕ) (f : D → ℕ) (a : D → Option (List ℕ)) (takes stores more into : FileKind → Bool) (x y : D) → ((kind : FileKind) → more kind ≡ false → takes kind ≡ false)
+    → ((kind : FileKind) → into kind ≡ false → stores kind ≡ false) → Touches h t s f a takes stores x y → Touches h t s f a more into x y
+touches_more h t s f a takes stores more into x y less fewer step = record {
+  attached = step.attached;
+  contents = λ kind isnt. step.contents kind (fewer kind isnt);
+  taken = λ kind isnt. step.taken kind (less kind isnt);
+  stored = λ kind isnt. step.stored kind (fewer kind isnt);
+  later = step.later;
+}
+
 -- A file that was changed by a function, where it is told
 pub told_by : (f : List ℕ → List ℕ) (old new : Option (List ℕ)) (P Q : List ℕ → Type 0) → new ≡ option_map f old → ((file : List ℕ) → P file → Q (f file)) → IfSome old P → IfSome new Q
 told_by f None new P Q is step had = rw is tt
@@ -91,6 +156,11 @@ told_both (Some file) P Q first second = (first, second)
 pub told_with : (told : Option (List ℕ)) (P Q R : List ℕ → Type 0) → ((file : List ℕ) → P file → Q file → R file) → IfSome told P → IfSome told Q → IfSome told R
 told_with None P Q R step first second = tt
 told_with (Some file) P Q R step first second = step file first second
+
+-- what follows of a file and of what it is
+pub told_at : (told : Option (List ℕ)) (P Q : List ℕ → Type 0) → ((file : List ℕ) → told ≡ Some file → P file → Q file) → IfSome told P → IfSome told Q
+told_at None P Q step had = tt
+told_at (Some file) P Q step had = step file refl had
 
 pub told_some : (told : Option (List ℕ)) (P : List ℕ → Type 0) (file : List ℕ) → told ≡ Some file → IfSome told P → P file
 told_some None P file is had = absurd (cc)

@@ -54,3 +54,13 @@ pub record HasCauseOutside {T : Type 0} (before now : ℕ) (result : Result T De
   pub later : before ≤ now
   pub failed : OnErr result (Rose before now)
   pub no_memory : IsErrOf result NoMemory → ⊥
+
+-- Outside n bytes from a place on the bytes are as they were, and as many.
+pub record SameOutside (place n : ℕ) (old new : List ℕ) : Type 0 where
+  pub before : take place new ≡ take place old
+  pub behind : drop (place + n) new ≡ drop (place + n) old
+  pub long : length new ≡ length old
+
+-- the same of what is told; a depot that tells nothing goes on telling nothing
+abbrev pub SameOutsideTold : ℕ → ℕ → Option (List ℕ) → Option (List ℕ) → Type 0
+SameOutsideTold place n old new = MatchOption old (new ≡ None) (λ file. IsSomeAnd new (SameOutside place n file))

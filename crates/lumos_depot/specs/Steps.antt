@@ -1,5 +1,5 @@
 -- What a step over a depot, of one call or many, does to the files and to what is counted for them.
-use Rattle.std.specs.Prelude.{◌≡◌, ◌≤◌, ◌<◌, ◌+◌, ◌-◌, ◌^◌, ℕ, List, Option}
+use Rattle.std.specs.Prelude.{◌≡◌, ◌≤◌, ◌<◌, ◌+◌, ◌-◌, ◌^◌, ℕ, Bool, false, List, Option}
 use Rattle.lumos_depot.specs.Files.{Same, SameBut}
 use Rattle.lumos_depot.specs.declared.depot.FileKind.{FileKind}
 
@@ -30,4 +30,17 @@ pub record Moves {D : Type 0} (h : D → FileKind → Option (List ℕ)) (t s : 
   pub contents : SameBut into (h before) (h after)
   pub taken : SameBut from (t before) (t after)
   pub stored : SameBut into (s before) (s after)
+  pub later : f before ≤ f after
+
+-- what is told of the files that aren't among the named ones, or counted for them, is as it was
+abbrev pub SameOff : {A : Type 0} → (FileKind → Bool) → (FileKind → A) → (FileKind → A) → Type 0
+SameOff named old new = (kind : FileKind) → named kind ≡ false → new kind ≡ old kind
+
+-- The step took bytes of some files and stored bytes in some: no other file changed, nor what is counted for it, and the
+-- count of faults didn't fall.
+pub record Touches {D : Type 0} (h : D → FileKind → Option (List ℕ)) (t s : D → FileKind → ℕ) (f : D → ℕ) (a : D → Option (List ℕ)) (takes stores : FileKind → Bool) (before after : D) : Type 0 where
+  pub attached : a after ≡ a before
+  pub contents : SameOff stores (h before) (h after)
+  pub taken : SameOff takes (t before) (t after)
+  pub stored : SameOff stores (s before) (s after)
   pub later : f before ≤ f after

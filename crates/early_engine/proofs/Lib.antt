@@ -8,7 +8,6 @@ pub mod KindLemmas
 pub mod MadeLemmas
 pub mod MostLemmas
 pub mod OpenLemmas
-pub mod OverLemmas
 pub mod PassLemmas
 pub mod PassSteps
 pub mod PassedLemmas

@@ -10,6 +10,7 @@ use Rattle.lumos_depot.specs.declared.stream.Failed.{Failed}
 use Rattle.lumos_depot.proofs.Written.{after_told-after}
 use Rattle.lumos_law.specs.Program.{Program}
 use Rattle.lumos_law.specs.Sync.{IsChunk}
+use Rattle.flight_core.proofs.OverLemmas.{list_chunk, list_state}
 use Rattle.lumos_report.specs.Report.{counts_line, ending_line, head_line, zero_line}
 use Rattle.lumos_report.specs.declared.records.Ending.{Ending}
 use Rattle.lumos_report.specs.declared.records.Kind.{Kind}
@@ -27,7 +28,6 @@ use Rattle.early_engine.specs.declared.options.RunFault.{RunFault}
 use Rattle.early_engine.specs.declared.options.Show.{Show}
 use Rattle.early_engine.specs.declared.options.Turn.{Turn}
 use Rattle.early_engine.specs.declared.options.Turn.TheVariants.{Going, Ended}
-use Rattle.early_engine.proofs.OverLemmas.{list_chunk, list_state}
 
 told_none : (told : Option (List ℕ)) → told ≡ after_told told []
 told_none None = refl

@@ -1,10 +1,11 @@
 -- What an iteration makes of the values before it.
-use Rattle.std.specs.Prelude.{◌≡◌, ◌<◌, ℕ, suc, Bool, true, List, Some, None, find}
+use Rattle.std.specs.Prelude.{◌≡◌, ◌<◌, ℕ, suc, Bool, List, Some, None, find}
 use Rattle.std.specs.List.{range_with_len}
 use Rattle.lumos_base.specs.declared.records.Edge.{Edge}
 use Rattle.lumos_law.specs.Program.{Program}
 use Rattle.lumos_law.specs.Sync.{is_over, moved_count}
 use Rattle.partition.specs.Parts.{Cut}
+use Rattle.flight_core.specs.Finish.{IsOver}
 use Rattle.grid_format.specs.Tables.{BlockCounts}
 use Rattle.io_account.specs.declared.Counts.{Counts}
 use Rattle.lumos_report.specs.declared.records.Kind.{Kind}
@@ -26,14 +27,6 @@ module _ {V S : Type 0} (p : Program V S) where
   abbrev pub IsUnmade : List Edge → Cut → ℕ → Stop → Type 0
   IsUnmade edges cut t (File fault) = IsIntact fault
   IsUnmade edges cut t (Over vertex) = find (is_over p edges t) (range_with_len 0 cut.vertices) ≡ Some vertex.0
-
--- A vertex is over by some value and some sum in range.
-pub record IsOver {V S : Type 0} (ValueIn : V → Type 0) (SumIn : S → Type 0) (p : Program V S) (v : ℕ) : Type 0 where
-  pub value : V
-  pub sum : S
-  pub value_in : ValueIn value
-  pub sum_in : SumIn sum
-  pub over : p.over v value sum ≡ true
 
 -- An iteration of a kind stops at a block that it goes through, or for a vertex that is over.
 abbrev pub StopShows : {V S : Type 0} → (V → Type 0) → (S → Type 0) → Program V S → Kind → Cut → BlockCounts → Stop → Type 0

@@ -5,6 +5,7 @@ use Rattle.lumos_depot.specs.Streams.{AppendsFront, after_told}
 use Rattle.lumos_law.specs.Program.{Program}
 use Rattle.lumos_law.specs.Sync.{Ending as EndingOf, over_in, still_in, limit_at, ending, ending_from}
 use Rattle.partition.specs.Parts.{Cut}
+use Rattle.flight_core.specs.Finish.{IsOver}
 use Rattle.grid_format.specs.Tables.{BlockCounts}
 use Rattle.lumos_report.specs.declared.records.Ending.{Ending}
 use Rattle.lumos_report.specs.declared.records.Why.{Why}
@@ -12,7 +13,6 @@ use Rattle.lumos_report.specs.declared.records.Why.TheVariants.{Still, Limit}
 use Rattle.value_files.specs.declared.fault.FileFault.TheVariants as file
 use Rattle.early_engine.specs.Early.{IsKept}
 use Rattle.early_engine.specs.Grids.{IsStrayWord}
-use Rattle.early_engine.specs.Making.{IsOver}
 use Rattle.early_engine.specs.Passes.{kind_of}
 use Rattle.early_engine.specs.Report.{finished, turn_text}
 use Rattle.early_engine.specs.declared.iteration.Stop.{Stop}

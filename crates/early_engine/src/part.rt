@@ -1,38 +1,17 @@
 // The values of a part, made of its sums.
-ghost use Rattle.std.specs.Prelude.{◌≡◌, ◌≤◌, ◌<◌, ◌+◌, ◌-◌, ℕ, suc, true, List, Some, find, length, slice_index_or, IfErr, IfOk, MatchResult};
+ghost use Rattle.std.specs.Prelude.{◌≡◌, ◌≤◌, ◌<◌, ◌+◌, ℕ, suc, List, Some, find, length, IfErr, IfOk, MatchResult};
 ghost use Rattle.std.specs.List.{range_with_len};
 ghost use Rattle.lumos_base.specs.declared.records.Edge.{Edge};
 ghost use Rattle.lumos_law.specs.Sync.{is_over, sum_at, values, IsChunk};
 ghost use Rattle.partition.specs.Parts.{chunk_of, first_vertex, part_length};
-ghost use Rattle.early_engine.specs.Making.{IsOver};
+ghost use Rattle.flight_core.specs.Finish.{IsOver};
 ghost use Rattle.early_engine.specs.Passes.{is_hot};
 ghost use Rattle.early_engine.specs.Steps.{IsMadeBelow};
 
 use crate::layout::Layout;
 use flight_core::{Finish, finalise};
-use lumos_base::{Fixed, Vertex};
+use lumos_base::Vertex;
 use lumos_law::VertexProgram;
-
-// Tells that the value and the sum by which a vertex is over are in range. The values and sums are those of the vertices
-// from `first` on.
-fn see_over<G: VertexProgram>(
-    program: &G,
-    vertex: Vertex,
-    first: u32,
-    before: &[G::Value],
-    sums: &[G::Sum],
-)
-    requires low { first ≤ vertex.0 }
-    requires high { vertex.0 < first + length before.now }
-    requires sums_fit { length sums.now ≡ length before.now }
-    requires over { (x : G.Value) (s : G.Sum) → x ≡ slice_index_or before.now (vertex.0 - first) x → s ≡ slice_index_or sums.now (vertex.0 - first) s
-        → (G.model program.now).over vertex.0 x s ≡ true }
-    ensures { IsOver G.Value.is_in_range G.Sum.is_in_range (G.model program.now) vertex.0 }
-{
-    let index = (vertex.0 - first) as usize;
-    before[index].in_range();
-    sums[index].in_range();
-}
 
 // Makes the values of part j after an iteration of those before it and the part's sums, and answers how many moved and
 // whether the part is hot, or the first vertex that is over. The parts below j are made.
@@ -72,7 +51,6 @@ pub(crate) fn make_part<G: VertexProgram>(
     );
     let over = end.over;
     if let Some(vertex) = over {
-        see_over(program, vertex, range.first, &before[first..past], sums);
         return Err(vertex);
     }
     Ok(end)

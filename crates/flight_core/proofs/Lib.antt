@@ -6,6 +6,7 @@ pub mod FinishLemmas
 pub mod LegalLemmas
 pub mod LookLemmas
 pub mod OutLemmas
+pub mod OverLemmas
 pub mod RangeLemmas
 pub mod ReplayLemmas
 pub mod ScheduleFields

@@ -1,5 +1,5 @@
 -- How the next values of a range of vertices come out.
-use Rattle.std.specs.Prelude.{ℕ, ◌+◌, Bool, ◌||◌, if◌then◌else◌, Some, None, count_by, find, option_map}
+use Rattle.std.specs.Prelude.{◌≡◌, ℕ, ◌+◌, Bool, true, ◌||◌, if◌then◌else◌, Some, None, count_by, find, option_map}
 use Rattle.std.specs.List.{range_with_len, list_any}
 use Rattle.std.specs.Option.{option_or}
 use Rattle.flight_core.specs.declared.steps.Finish.{Finish}
@@ -19,6 +19,14 @@ module _ {V S : Type 0} (p : Program V S) (state : ℕ → V) (sum : ℕ → S) 
     hot = list_any (λ v. p.contributes (applied v)) (range_with_len first n);
     over = option_map vertex_of (find (λ v. p.over v (state v) (sum v)) (range_with_len first n));
   }
+
+-- A vertex is over by some value and some sum in range.
+pub record IsOver {V S : Type 0} (ValueIn : V → Type 0) (SumIn : S → Type 0) (p : Program V S) (v : ℕ) : Type 0 where
+  pub value : V
+  pub sum : S
+  pub value_in : ValueIn value
+  pub sum_in : SumIn sum
+  pub over : p.over v value sum ≡ true
 
 -- one range of vertices, and the next
 abbrev pub joined_end : Finish → Finish → Finish

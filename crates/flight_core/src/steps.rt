@@ -1,10 +1,10 @@
 // The steps of an iteration: a block's edges feed the sums of a chunk, and the chunk's sums make its next values.
-ghost use Rattle.std.specs.Prelude.{◌≡◌, ℕ, ◌+◌, ◌-◌, ◌^◌, ◌<◌, ◌≤◌, All, length};
-ghost use Rattle.flight_core.specs.Finish.{applied, finish_of, noted_end};
+ghost use Rattle.std.specs.Prelude.{◌≡◌, ℕ, ◌+◌, ◌-◌, ◌^◌, ◌<◌, ◌≤◌, true, All, length, slice_index_or, IfSome};
+ghost use Rattle.flight_core.specs.Finish.{applied, finish_of, noted_end, IsOver};
 ghost use Rattle.lumos_law.specs.Sync.{fed_sum, IsChunk};
 ghost use Rattle.partition.specs.Parts.{IsWithin};
 
-use lumos_base::{Edge, Vertex};
+use lumos_base::{Edge, Fixed, Vertex};
 use lumos_law::{Combine, VertexProgram};
 
 /// Joins to each sum what the edges give its vertex, in list order: GridGraph's streaming of a block.
@@ -55,8 +55,32 @@ fn noted(end: Finish, vertex: Vertex, moved: bool, hot: bool, over: bool) -> Fin
     }
 }
 
+// Tells that the value and the sum by which a vertex is over are in range, if one is. The values and sums are those of the
+// vertices from `first` on.
+fn see_over<G: VertexProgram>(
+    program: &G,
+    over: Option<Vertex>,
+    first: u32,
+    before: &[G::Value],
+    sums: &[G::Sum],
+)
+    requires sums_fit { length sums.now ≡ length before.now }
+    requires within { IfSome over (λ vertex. IsWithin first (length before.now) vertex.0) }
+    requires over { IfSome over (λ vertex. (x : G.Value) (s : G.Sum)
+        → x ≡ slice_index_or before.now (vertex.0 - first) x → s ≡ slice_index_or sums.now (vertex.0 - first) s
+        → (G.model program.now).over vertex.0 x s ≡ true) }
+    ensures { IfSome over (λ vertex. IsOver G.Value.is_in_range G.Sum.is_in_range (G.model program.now) vertex.0) }
+{
+    if let Some(vertex) = over {
+        let index = (vertex.0 - first) as usize;
+        before[index].in_range();
+        sums[index].in_range();
+    }
+}
+
 /// Makes the next values of the vertices from `first` on, and says how they came out. Each next value is what the
-/// program's `apply` makes of the vertex's value and its whole sum, also where the vertex is over.
+/// program's `apply` makes of the vertex's value and its whole sum, also where the vertex is over. Whatever the slices
+/// hold, a vertex that is told as over is one of these, and is over by some value and some sum in range.
 ///
 /// The three slices have to be equally long, and their vertices have to lie below 268435456, which is our own bound.
 pub fn finalise<G: VertexProgram>(
@@ -74,6 +98,8 @@ pub fn finalise<G: VertexProgram>(
         → IsChunk state first before.now → IsChunk sum first sums.now
         → IsChunk (applied (G.model program.now) state sum) first after.new
         × (result ≡ finish_of (G.model program.now) state sum first (length before.now)) }
+    ensures over { IfSome result.over (λ vertex. IsWithin first (length before.now) vertex.0
+        × IsOver G.Value.is_in_range G.Sum.is_in_range (G.model program.now) vertex.0) }
 {
     let mut end = Finish {
         moved: 0,
@@ -91,5 +117,6 @@ pub fn finalise<G: VertexProgram>(
         after[i] = next;
         end = noted(end, vertex, moved, hot, over);
     }
+    see_over(program, end.over, first, before, sums);
     end
 }

@@ -13,6 +13,7 @@ use Rattle.lumos_depot.specs.Steps.{RoseBy}
 use Rattle.grid_format.specs.declared.head.GridInfo.{GridInfo}
 use Rattle.lumos_law.specs.Program.{Program}
 use Rattle.lumos_law.specs.Sync.{ending}
+use Rattle.flight_core.specs.Finish.{IsOver}
 use Rattle.lumos_report.specs.declared.records.Ending.{Ending as EndingRecord}
 use Rattle.lumos_report.specs.declared.records.Why.{Why}
 use Rattle.lumos_report.specs.declared.records.Why.TheVariants.{Still, Limit}
@@ -22,7 +23,6 @@ use Rattle.early_engine.specs.Opens.{OpenShows}
 use Rattle.early_engine.specs.Report.{finished, report}
 use Rattle.early_engine.specs.Reported.{IsReport}
 use Rattle.early_engine.specs.Runs.{RunComes}
-use Rattle.early_engine.specs.Making.{IsOver}
 use Rattle.early_engine.specs.Turns.{SomeShows, ending_by_why}
 use Rattle.grid_format.specs.Tables.{BlockCounts}
 use Rattle.early_engine.specs.declared.options.Mode.{Mode}

@@ -1,13 +1,13 @@
 use Rattle.std.proofs.Common.{◌≡◌, ℕ, suc, ◌+◌, ◌-◌, ◌≤◌, length, take, drop, sym, ap, ◌∙◌, subst, arith}
+use Rattle.std.specs.Prelude.{IfSome}
 use Rattle.std.proofs.lemmas.List.{length-take, length-drop}
 use Rattle.lumos_law.specs.Sync.{sum_at, values, IsChunk}
 use Rattle.lumos_law.proofs.ChunkLemmas.{chunk_part}
-use Rattle.partition.specs.Parts.{chunk_of, first_vertex, part_length}
+use Rattle.partition.specs.Parts.{IsWithin, chunk_of, first_vertex, part_length}
 use Rattle.partition.specs.declared.records.VertexRange.{VertexRange}
-use Rattle.flight_core.specs.Finish.{finish_of}
+use Rattle.flight_core.specs.Finish.{IsOver, finish_of}
 use Rattle.flight_core.specs.declared.steps.Finish.{Finish}
 use Rattle.early_engine.proofs.MadeLemmas.{chunk_put, moved_next, over_found, over_next}
-use Rattle.early_engine.proofs.OverLemmas.{over_at, over_high, over_low}
 use Rattle.early_engine.proofs.part.make_part.Goals as goal
 
 pub finalise-end-requires : goal.finalise-end-requires
@@ -24,26 +24,6 @@ finalise-end-requires g c =
       sums_fit = omega (arith, piece, c.requires.sums_fit, first_is, past_is);
       after_fits = there ∙ sym piece;
       in_range = omega (arith, piece, ordered, inside, c.requires.few);
-    }
-
-pub see_over-requires : goal.see_over-requires
-see_over-requires g c =
-    let p = g.G.VertexProgram.model c.args.program.now in
-    let cut = c.args.layout.now.parts in
-    let first = c.range_of-range.result.first in
-    let past = c.range_of-range.result.past in
-    let ordered : first ≤ past = c.range_of-range.ensures.ordered in
-    let inside : past ≤ cut.vertices = c.range_of-range.ensures.inside in
-    let first_is : first ≡ first_vertex cut.vertices (chunk_of cut) c.args.j = ap (λ (r : VertexRange). r.first) c.range_of-range.ensures.value in
-    let past_is : past ≡ first_vertex cut.vertices (chunk_of cut) (c.args.j + 1) = ap (λ (r : VertexRange). r.past) c.range_of-range.ensures.value in
-    let part = take (past - first) (drop first c.args.before.now) in
-    let piece : length part ≡ past - first = simp (length-take, length-drop) (omega (arith, ordered, inside, c.requires.before_fits)) in
-    let fit : length c.args.sums.now ≡ length part = omega (arith, piece, c.requires.sums_fit, first_is, past_is) in
-    record {
-      low = over_low p first part c.args.sums.now fit c.finalise-end.result c.in-Some.vertex c.in-Some.is (λ state sum a b. (c.finalise-end.ensures.step state sum a b).1);
-      high = over_high p first part c.args.sums.now fit c.finalise-end.result c.in-Some.vertex c.in-Some.is (λ state sum a b. (c.finalise-end.ensures.step state sum a b).1);
-      sums_fit = fit;
-      over = over_at p first part c.args.sums.now fit c.finalise-end.result c.in-Some.vertex c.in-Some.is (λ state sum a b. (c.finalise-end.ensures.step state sum a b).1);
     }
 
 pub returns-in-Some-clause-made : goal.returns-in-Some-clause-made
@@ -125,16 +105,12 @@ returns-clause-hot g c edges t holds sums =
 
 pub returns-in-Some-clause-over : goal.returns-in-Some-clause-over
 returns-in-Some-clause-over g c =
-    let p = g.G.VertexProgram.model c.args.program.now in
-    let cut = c.args.layout.now.parts in
     let first = c.range_of-range.result.first in
     let past = c.range_of-range.result.past in
     let ordered : first ≤ past = c.range_of-range.ensures.ordered in
-    let inside : past ≤ cut.vertices = c.range_of-range.ensures.inside in
-    let first_is : first ≡ first_vertex cut.vertices (chunk_of cut) c.args.j = ap (λ (r : VertexRange). r.first) c.range_of-range.ensures.value in
-    let past_is : past ≡ first_vertex cut.vertices (chunk_of cut) (c.args.j + 1) = ap (λ (r : VertexRange). r.past) c.range_of-range.ensures.value in
+    let inside : past ≤ c.args.layout.now.parts.vertices = c.range_of-range.ensures.inside in
     let part = take (past - first) (drop first c.args.before.now) in
     let piece : length part ≡ past - first = simp (length-take, length-drop) (omega (arith, ordered, inside, c.requires.before_fits)) in
-    let fit : length c.args.sums.now ≡ length part = omega (arith, piece, c.requires.sums_fit, first_is, past_is) in
-    let high = over_high p first part c.args.sums.now fit c.finalise-end.result c.in-Some.vertex c.in-Some.is (λ state sum a b. (c.finalise-end.ensures.step state sum a b).1) in
-    (omega (arith, high, piece, ordered, inside), c.see_over.ensures)
+    let over = subst (λ o. IfSome o (λ v. IsWithin first (length part) v.0 × IsOver g.G.Value.Fixed.is_in_range g.G.Sum.Fixed.is_in_range (g.G.VertexProgram.model c.args.program.now) v.0)) c.in-Some.is c.finalise-end.ensures.over in
+    let high = over.0.high in
+    (omega (arith, high, piece, ordered, inside), over.1)

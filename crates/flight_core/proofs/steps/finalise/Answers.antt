@@ -1,6 +1,7 @@
-use Rattle.std.proofs.Common.{◌≡◌, ℕ, ◌+◌, ◌<◌, ◌≤◌, length, sym, ap, ap₂, ◌∙◌, subst, arith}
+use Rattle.std.proofs.Common.{◌≡◌, ℕ, ◌+◌, ◌<◌, ◌≤◌, length, refl, sym, ap, ap₂, ◌∙◌, subst, arith}
 use Rattle.std.proofs.lemmas.List.{take_all}
 use Rattle.flight_core.proofs.FinishLemmas.{finish_more, chunk_more, noted_few, noted_same}
+use Rattle.flight_core.proofs.OverLemmas.{over_at, over_both, over_within}
 use Rattle.flight_core.proofs.steps.finalise.Goals as goal
 use Rattle.flight_core.specs.Finish.{finish_of, applied}
 use Rattle.lumos_base.specs.Records.{vertex_of}
@@ -39,3 +40,24 @@ returns-clause-step g c state sum values sums =
       subst (IsChunk (applied p state sum) c.args.first) (take_all c.loop-i.i c.loop-i.after (omega (arith, c.loop-i.auto.after))) kept.0,
       kept.1 ∙ ap (finish_of p state sum c.args.first) all,
     )
+
+pub see_over-requires : goal.see_over-requires
+see_over-requires g c =
+    let p = g.G.VertexProgram.model c.args.program.now in
+    let fit = c.requires.sums_fit in
+    let end = c.loop-i.end in
+    let all : c.loop-i.i ≡ length c.args.before.now = omega (arith, c.loop-i.auto.i-end) in
+    record {
+      sums_fit = fit;
+      within = over_within p c.args.first c.args.before.now c.args.sums.now fit end c.loop-i.i all (λ state sum a b. (c.loop-i.invariant.done state sum a b).1) end.over refl;
+      over = over_at p c.args.first c.args.before.now c.args.sums.now fit end c.loop-i.i all (λ state sum a b. (c.loop-i.invariant.done state sum a b).1) end.over refl;
+    }
+
+pub returns-clause-over : goal.returns-clause-over
+returns-clause-over g c =
+    let p = g.G.VertexProgram.model c.args.program.now in
+    let end = c.loop-i.end in
+    let all : c.loop-i.i ≡ length c.args.before.now = omega (arith, c.loop-i.auto.i-end) in
+    over_both end.over _ _
+    (over_within p c.args.first c.args.before.now c.args.sums.now c.requires.sums_fit end c.loop-i.i all (λ state sum a b. (c.loop-i.invariant.done state sum a b).1) end.over refl)
+    c.see_over.ensures

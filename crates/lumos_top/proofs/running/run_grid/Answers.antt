@@ -1,7 +1,7 @@
 use Rattle.std.proofs.Common.{IfOk, sym, subst}
 use Rattle.std.specs.Prelude.{codes}
-use Rattle.early_engine.specs.Making.{IsOver}
 use Rattle.lumos_law.specs.Combines.{IsTotal4}
+use Rattle.flight_core.specs.Finish.{IsOver}
 use Rattle.programs.specs.Spreading.{IsScores}
 use Rattle.lumos_top.specs.Answers.{ran_as, ran_by}
 use Rattle.lumos_top.specs.Programs.{seeds_from}

@@ -2,8 +2,8 @@ use Rattle.std.specs.Prelude.{IfErr, IfOk}
 use Rattle.std.proofs.Common.{Ok, Err, sym, subst, ◌∙◌}
 use Rattle.lumos_depot.specs.declared.depot.FileKind.TheVariants.{Meta, Primary, Secondary}
 use Rattle.lumos_law.specs.Sync.{ending}
+use Rattle.flight_core.specs.Finish.{IsOver}
 use Rattle.lumos_depot.specs.Steps.{RoseBy}
-use Rattle.early_engine.specs.Making.{IsOver}
 use Rattle.early_engine.specs.Passes.{primary_taken, secondary_taken}
 use Rattle.early_engine.specs.Report.{report}
 use Rattle.early_engine.specs.Runs.{RunComes}

@@ -3,11 +3,12 @@ use Rattle.std.proofs.Common.{◌≡◌, ◌≢◌, ◌⊎◌, inl, inr, ℕ, ze
 use Rattle.std.specs.Prelude.{IfSome}
 use Rattle.std.specs.Option.{option_map}
 use Rattle.std.proofs.Math.Nat.{mod-lt, mul_comm}
-use Rattle.lumos_depot.specs.Files.{overwritten}
+use Rattle.lumos_depot.specs.Files.{SameOutside, overwritten}
 use Rattle.lumos_depot.proofs.StepLemmas.{told_by}
-use Rattle.value_files.specs.Kept.{sum_place, value_place}
+use Rattle.value_files.specs.Kept.{AreApart, SameRecords, sum_place, value_place}
 use Rattle.value_files.specs.Records.{AreRecords}
 use Rattle.value_files.proofs.BackLemmas.{read_back}
+use Rattle.value_files.proofs.OutsideLemmas.{records_outside}
 use Rattle.value_files.proofs.RecordLemmas.{times_add, times_within}
 
 turn_within : (b n : ℕ) → b < 2 → b * n + n ≤ 2 * n
@@ -44,11 +45,11 @@ pub sum_inside : (w first len past : ℕ) → first + len ≤ past → sum_place
 sum_inside w first len past low = before_of w first len past low
 
 -- the records of ranges that are apart are apart
-pub sums_apart : (w a m b n : ℕ) → (a + m ≤ b) ⊎ (b + n ≤ a) → (sum_place w a + w * m ≤ sum_place w b) ⊎ (sum_place w b + w * n ≤ sum_place w a)
+pub sums_apart : (w a m b n : ℕ) → AreApart a m b n → (sum_place w a + w * m ≤ sum_place w b) ⊎ (sum_place w b + w * n ≤ sum_place w a)
 sums_apart w a m b n (inl low) = inl (before_of w a m b low)
 sums_apart w a m b n (inr low) = inr (before_of w b n a low)
 
-pub values_apart : (w n t a m b k : ℕ) → (a + m ≤ b) ⊎ (b + k ≤ a) → (value_place w n t a + w * m ≤ value_place w n t b) ⊎ (value_place w n t b + w * k ≤ value_place w n t a)
+pub values_apart : (w n t a m b k : ℕ) → AreApart a m b k → (value_place w n t a + w * m ≤ value_place w n t b) ⊎ (value_place w n t b + w * k ≤ value_place w n t a)
 values_apart w n t a m b k (inl low) = inl (before_of w (t % 2 * n + a) m (t % 2 * n + b) (omega arith))
 values_apart w n t a m b k (inr low) = inr (before_of w (t % 2 * n + b) k (t % 2 * n + a) (omega arith))
 
@@ -60,9 +61,36 @@ turns_are_apart w n t u a m b k apart one two = by_turn (turns_apart (t % 2) (u 
     by_turn (inl low) = inl (before_of w (t % 2 * n + a) m (u % 2 * n + b) (omega arith))
     by_turn (inr low) = inr (before_of w (u % 2 * n + b) k (t % 2 * n + a) (omega arith))
 
+-- two iterations, one behind the other
+next_differs : (t : ℕ) → t % 2 ≢ (t + 1) % 2
+next_differs t same = omega (arith, same)
+
+pub before_apart : (w n t a m b k : ℕ) → a + m ≤ n → b + k ≤ n → (value_place w n t a + w * m ≤ value_place w n (t + 1) b) ⊎ (value_place w n (t + 1) b + w * k ≤ value_place w n t a)
+before_apart w n t a m b k one two = turns_are_apart w n t (t + 1) a m b k (next_differs t) one two
+
 -- what was written where there is room for it is read back
 pub told_back : {V : Type 0} (bytes_of : V → List ℕ) (w : ℕ) (long : (v : V) → length (bytes_of v) ≡ w) (value_of : List ℕ → Option V) (In : V → Type 0) (back : (v : V) → In v → value_of (bytes_of v) ≡ Some v)
     (items : List V) (place : ℕ) (old new : Option (List ℕ)) (P : List ℕ → Type 0) → ((file : List ℕ) → P file → place + w * length items ≤ length file) → All In items → IfSome old P → new ≡ option_map (overwritten place (flat_map bytes_of items)) old → IfSome new (AreRecords value_of w place items)
 told_back bytes_of w long value_of In back items place old new P room all had is =
     told_by (overwritten place (flat_map bytes_of items)) old new P (AreRecords value_of w place items) is
     (λ file fits. read_back bytes_of w long value_of In back items place file all (room file fits)) had
+
+apart_turned : (a m b n : ℕ) → AreApart a m b n → AreApart b n a m
+apart_turned a m b n (inl low) = inr low
+apart_turned a m b n (inr low) = inl low
+
+-- what a store of a range leaves of the others
+pub other_values : (w n t first len other count : ℕ) (old new : List ℕ) → AreApart first len other count → SameOutside (value_place w n t first) (w * len) old new → SameRecords w (value_place w n t other) count old new
+other_values w n t first len other count old new apart same =
+    records_outside w (value_place w n t first) (w * len) (value_place w n t other) count old new same
+    (values_apart w n t other count first len (apart_turned first len other count apart))
+
+pub values_before : (w n t first len other count : ℕ) (old new : List ℕ) → first + len ≤ n → other + count ≤ n → SameOutside (value_place w n (t + 1) first) (w * len) old new → SameRecords w (value_place w n t other) count old new
+values_before w n t first len other count old new one two same =
+    records_outside w (value_place w n (t + 1) first) (w * len) (value_place w n t other) count old new same
+    (before_apart w n t other count first len two one)
+
+pub other_sums : (w first len other count : ℕ) (old new : List ℕ) → AreApart first len other count → SameOutside (sum_place w first) (w * len) old new → SameRecords w (sum_place w other) count old new
+other_sums w first len other count old new apart same =
+    records_outside w (sum_place w first) (w * len) (sum_place w other) count old new same
+    (sums_apart w other count first len (apart_turned first len other count apart))

@@ -58,6 +58,7 @@ pub fn load_values<V: Fixed + Copy, D: Depot>(
     ensures fault { IfSome (D.holds depot.old FileKind.Values) (λ file. FaultIs result (damage_at V.value_of V.WIDTH FileKind.Values (value_place V.WIDTH vertices t range.first) (length out.old) file)) }
     ensures broken { IfErr result (ShowsBroken V.value_of V.WIDTH FileKind.Values (value_place V.WIDTH vertices t range.first) (length out.old)) }
     ensures taken { OnOk result (RoseBy (D.taken depot.old FileKind.Values) (D.taken depot.new FileKind.Values) (V.WIDTH * length out.old)) }
+    ensures most { D.taken depot.new FileKind.Values ≤ D.taken depot.old FileKind.Values + V.WIDTH * length out.old }
     ensures reads { Reads D.holds D.taken D.stored D.faults D.attached FileKind.Values depot.old depot.new }
     ensures cause { result ≡ Err FileFault.Depot → Rose (D.faults depot.old) (D.faults depot.new) }
 {
@@ -88,6 +89,7 @@ pub fn store_values<V: Fixed + Copy, D: Depot>(
     ensures reads_back { OnOk result (IfSome (D.holds depot.new FileKind.Values) (AreRecords V.value_of V.WIDTH (value_place V.WIDTH vertices t range.first) values.now)) }
     ensures outside { SameOutsideTold (value_place V.WIDTH vertices t range.first) (V.WIDTH * length values.now) (D.holds depot.old FileKind.Values) (D.holds depot.new FileKind.Values) }
     ensures stored { OnOk result (RoseBy (D.stored depot.old FileKind.Values) (D.stored depot.new FileKind.Values) (V.WIDTH * length values.now)) }
+    ensures most { D.stored depot.new FileKind.Values ≤ D.stored depot.old FileKind.Values + V.WIDTH * length values.now }
     ensures stores { Stores D.holds D.taken D.stored D.faults D.attached FileKind.Values depot.old depot.new }
     ensures intact { IfErr result (λ fault. fault ≡ FileFault.Depot) }
     ensures cause { result ≡ Err FileFault.Depot → Rose (D.faults depot.old) (D.faults depot.new) }
@@ -121,6 +123,7 @@ pub fn load_sums<S: Fixed + Copy, D: Depot>(
     ensures fault { IfSome (D.holds depot.old FileKind.Sums) (λ file. FaultIs result (damage_at S.value_of S.WIDTH FileKind.Sums (sum_place S.WIDTH range.first) (length out.old) file)) }
     ensures broken { IfErr result (ShowsBroken S.value_of S.WIDTH FileKind.Sums (sum_place S.WIDTH range.first) (length out.old)) }
     ensures taken { OnOk result (RoseBy (D.taken depot.old FileKind.Sums) (D.taken depot.new FileKind.Sums) (S.WIDTH * length out.old)) }
+    ensures most { D.taken depot.new FileKind.Sums ≤ D.taken depot.old FileKind.Sums + S.WIDTH * length out.old }
     ensures reads { Reads D.holds D.taken D.stored D.faults D.attached FileKind.Sums depot.old depot.new }
     ensures cause { result ≡ Err FileFault.Depot → Rose (D.faults depot.old) (D.faults depot.new) }
 {
@@ -147,6 +150,7 @@ pub fn store_sums<S: Fixed + Copy, D: Depot>(
     ensures reads_back { OnOk result (IfSome (D.holds depot.new FileKind.Sums) (AreRecords S.value_of S.WIDTH (sum_place S.WIDTH range.first) sums.now)) }
     ensures outside { SameOutsideTold (sum_place S.WIDTH range.first) (S.WIDTH * length sums.now) (D.holds depot.old FileKind.Sums) (D.holds depot.new FileKind.Sums) }
     ensures stored { OnOk result (RoseBy (D.stored depot.old FileKind.Sums) (D.stored depot.new FileKind.Sums) (S.WIDTH * length sums.now)) }
+    ensures most { D.stored depot.new FileKind.Sums ≤ D.stored depot.old FileKind.Sums + S.WIDTH * length sums.now }
     ensures stores { Stores D.holds D.taken D.stored D.faults D.attached FileKind.Sums depot.old depot.new }
     ensures intact { IfErr result (λ fault. fault ≡ FileFault.Depot) }
     ensures cause { result ≡ Err FileFault.Depot → Rose (D.faults depot.old) (D.faults depot.new) }

@@ -5,7 +5,7 @@ ghost use Rattle.lumos_depot.specs.Causes.{Rose};
 ghost use Rattle.lumos_depot.specs.Files.{SameOutsideTold, overwritten};
 ghost use Rattle.lumos_depot.specs.Steps.{RoseBy, Stores};
 
-use crate::records::put_records;
+use crate::records::{PIECE, put_records};
 use lumos_base::Fixed;
 use lumos_depot::{Depot, Failed, FileKind};
 
@@ -35,7 +35,7 @@ fn write_piece<V: Fixed + Copy, D: Depot>(
     }
 }
 
-// Writes values from a place of a file on, a fixed number of bytes at a time.
+// Writes values from a place of a file on, a piece at a time.
 pub(crate) fn write_values<V: Fixed + Copy, D: Depot>(
     depot: &mut D,
     file: FileKind,
@@ -54,8 +54,8 @@ pub(crate) fn write_values<V: Fixed + Copy, D: Depot>(
     ensures stores { Stores D.holds D.taken D.stored D.faults D.attached file depot.old depot.new }
     ensures cause { OnErr result (Rose (D.faults depot.old) (D.faults depot.new)) }
 {
-    let mut bytes = [0; 4096];
-    let most = 4096 / V::WIDTH;
+    let mut bytes = [0; PIECE];
+    let most = PIECE / V::WIDTH;
     let mut done = 0;
     while done < items.len() {
         let past = items.len().min(done + most);

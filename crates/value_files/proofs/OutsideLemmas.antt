@@ -1,5 +1,5 @@
 -- Records outside the range of a write are those that stood there, and stand for the same values.
-use Rattle.std.proofs.Common.{◌≡◌, ◌⊎◌, ℕ, ◌+◌, ◌*◌, ◌≤◌, List, length, map, Option, Some, None, refl, sym, ap, ◌∙◌}
+use Rattle.std.proofs.Common.{◌⊎◌, ℕ, ◌+◌, ◌*◌, ◌≤◌, List, length, map, Option, Some, None, refl, sym, ap, ◌∙◌}
 use Rattle.lumos_depot.specs.Files.{SameOutside, SameOutsideTold, range_at}
 use Rattle.lumos_depot.proofs.OutsideLemmas.{range_outside}
 use Rattle.value_files.specs.Kept.{SameRecords}

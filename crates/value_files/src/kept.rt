@@ -1,5 +1,5 @@
 // The values and the sums of vertices in their files.
-ghost use Rattle.std.specs.Prelude.{◌≡◌, ◌≤◌, ◌<◌, ◌+◌, ◌*◌, ◌^◌, ℕ, All, Err, flat_map, length, IfErr, IfSome, IsSome, OnOk};
+ghost use Rattle.std.specs.Prelude.{◌≡◌, ◌≤◌, ◌<◌, ◌+◌, ◌-◌, ◌*◌, ◌^◌, ℕ, All, Err, flat_map, length, IfErr, IfSome, IsSome, OnOk};
 ghost use Rattle.std.specs.Option.{option_map};
 ghost use Rattle.lumos_depot.specs.Causes.{Rose};
 ghost use Rattle.lumos_depot.specs.Files.{SameOutsideTold, overwritten};
@@ -15,20 +15,23 @@ use lumos_base::Fixed;
 use lumos_depot::{Depot, FileKind};
 use partition::VertexRange;
 
-// Where the value of a vertex after iteration t stands.
-fn value_place<V: Fixed>(vertices: u32, t: u32, vertex: u32) -> u64
-    ensures value { result ≡ value_place V.WIDTH vertices t vertex }
+// Where the values of a range of the vertices after iteration t stand.
+fn value_place<V: Fixed>(vertices: u32, t: u32, range: VertexRange) -> u64
+    requires { range.past ≤ vertices }
+    ensures value { result ≡ value_place V.WIDTH vertices t range.first }
+    ensures inside { range.first ≤ range.past → result + V.WIDTH * (range.past - range.first) ≤ 2 * vertices * V.WIDTH }
     ensures far { result < 2 ^ 48 }
 {
-    (u64::from(t % 2) * u64::from(vertices) + u64::from(vertex)) * V::WIDTH as u64
+    (u64::from(t % 2) * u64::from(vertices) + u64::from(range.first)) * V::WIDTH as u64
 }
 
-// Where the sum of a vertex stands.
-fn sum_place<S: Fixed>(vertex: u32) -> u64
-    ensures value { result ≡ sum_place S.WIDTH vertex }
+// Where the sums of a range of the vertices stand.
+fn sum_place<S: Fixed>(range: VertexRange) -> u64
+    ensures value { result ≡ sum_place S.WIDTH range.first }
+    ensures inside { range.first ≤ range.past → result + S.WIDTH * (range.past - range.first) ≤ range.past * S.WIDTH }
     ensures far { result < 2 ^ 48 }
 {
-    u64::from(vertex) * S::WIDTH as u64
+    u64::from(range.first) * S::WIDTH as u64
 }
 
 /// Fills the places with the values after iteration t of a range of the vertices, from their file Values: that has two
@@ -62,8 +65,8 @@ pub fn load_values<V: Fixed + Copy, D: Depot>(
     ensures reads { Reads D.holds D.taken D.stored D.faults D.attached FileKind.Values depot.old depot.new }
     ensures cause { result ≡ Err FileFault.Depot → Rose (D.faults depot.old) (D.faults depot.new) }
 {
-    let place = value_place::<V>(vertices, t, range.first);
-    read_values(depot, FileKind::Values, place, out)
+    let from = value_place::<V>(vertices, t, range);
+    read_values(depot, FileKind::Values, from, out)
 }
 
 /// Writes the values after iteration t of a range of the vertices into Values, over those of the iteration before the last.
@@ -94,8 +97,8 @@ pub fn store_values<V: Fixed + Copy, D: Depot>(
     ensures intact { IfErr result (λ fault. fault ≡ FileFault.Depot) }
     ensures cause { result ≡ Err FileFault.Depot → Rose (D.faults depot.old) (D.faults depot.new) }
 {
-    let place = value_place::<V>(vertices, t, range.first);
-    match write_values(depot, FileKind::Values, place, values) {
+    let into = value_place::<V>(vertices, t, range);
+    match write_values(depot, FileKind::Values, into, values) {
         Ok(()) => Ok(()),
         Err(_) => Err(FileFault::Depot),
     }
@@ -127,8 +130,8 @@ pub fn load_sums<S: Fixed + Copy, D: Depot>(
     ensures reads { Reads D.holds D.taken D.stored D.faults D.attached FileKind.Sums depot.old depot.new }
     ensures cause { result ≡ Err FileFault.Depot → Rose (D.faults depot.old) (D.faults depot.new) }
 {
-    let place = sum_place::<S>(range.first);
-    read_values(depot, FileKind::Sums, place, out)
+    let from = sum_place::<S>(range);
+    read_values(depot, FileKind::Sums, from, out)
 }
 
 /// Writes the sums of a range of the vertices into Sums. The range, the sums and the file are as for `load_sums`. Whatever
@@ -155,8 +158,8 @@ pub fn store_sums<S: Fixed + Copy, D: Depot>(
     ensures intact { IfErr result (λ fault. fault ≡ FileFault.Depot) }
     ensures cause { result ≡ Err FileFault.Depot → Rose (D.faults depot.old) (D.faults depot.new) }
 {
-    let place = sum_place::<S>(range.first);
-    match write_values(depot, FileKind::Sums, place, sums) {
+    let into = sum_place::<S>(range);
+    match write_values(depot, FileKind::Sums, into, sums) {
         Ok(()) => Ok(()),
         Err(_) => Err(FileFault::Depot),
     }

@@ -1,7 +1,6 @@
 -- The grid that a depot holds, and its table.
 use Rattle.std.proofs.Common.{◌≡◌, ◌<◌, ◌≤◌, ◌+◌, ◌*◌, ℕ, List, length, take, Option, Some, None, Result, Err, sym, ap, ◌∙◌, subst, arith}
 use Rattle.std.specs.Prelude.{All, IfSome}
-use Rattle.std.proofs.lemmas.List.{take_all}
 use Rattle.lumos_base.specs.declared.records.Edge.{Edge}
 use Rattle.lumos_depot.specs.Files.{Same}
 use Rattle.lumos_depot.specs.declared.depot.FileKind.{FileKind}
@@ -17,12 +16,14 @@ use Rattle.grid_format.proofs.TableLemmas.{low_few, low_inside, primary_inside}
 use Rattle.value_files.specs.declared.fault.FileFault.{FileFault}
 use Rattle.value_files.specs.declared.fault.FileFault.TheVariants.{Depot, Damaged}
 use Rattle.column_stream.specs.Cursors.{CursorState, IsInside, edges_left, fault_left}
-use Rattle.column_stream.specs.Records.{FaultIs, Fits, IsDamage}
+use Rattle.value_files.specs.Records.{FaultIs}
+use Rattle.column_stream.specs.Records.{Fits, IsDamage}
 use Rattle.column_stream.specs.declared.records.Ends.{Ends}
 use Rattle.column_stream.proofs.BlockLemmas.{block_streamed, low_streamed}
 use Rattle.column_stream.specs.Blocks.{IsStreamed}
-use Rattle.lumos_depot.proofs.StepLemmas.{told_more, told_same}
-use Rattle.early_engine.specs.Grids.{HasBlocks, IsIntact, IsLaid, IsOfBlock, IsOnGrid, bytes_in, ends_of, place_in}
+use Rattle.lumos_depot.proofs.StepLemmas.{told_more, told_same, told_some}
+use Rattle.value_files.specs.Records.{IsIntact}
+use Rattle.early_engine.specs.Grids.{HasBlocks, IsLaid, IsOfBlock, IsOnGrid, bytes_in, ends_of, place_in}
 use Rattle.early_engine.specs.Passes.{file_of}
 use Rattle.early_engine.specs.Steps.{GoesThrough}
 use Rattle.lumos_base.specs.Records.{IsEdge}
@@ -66,16 +67,11 @@ pub begins_at : (kind : Kind) (cut : Cut) (table : BlockCounts) (i j : ℕ) (cur
 begins_at kind cut table i j cursor file place count sources targets is read at counted from into = is ∙ (λ t. cursor_of (read t) (at t) (counted t) (from t) (into t))
 
 -- edges whose ends lie in the ranges of a block's cursor lie in its parts
-pub fits_part : (cut : Cut) (i j : ℕ) (ends : Ends) (n : ℕ) (out : List Edge) → ends ≡ ends_of cut i j → length out ≡ n → All (Fits ends) (take n out)
+pub fits_part : (cut : Cut) (i j : ℕ) (ends : Ends) (out : List Edge) → ends ≡ ends_of cut i j → All (Fits ends) out
     → All (λ e. IsInPart cut.vertices (chunk_of cut) i e.source.0) out × All (λ e. IsInPart cut.vertices (chunk_of cut) j e.target.0) out
-fits_part cut i j ends n out is long fits =
-    let whole : All (Fits ends) out = subst (All (Fits ends)) (take_all n out (omega arith)) fits in
-    let here : All (Fits (ends_of cut i j)) out = subst (λ (e : Ends). All (Fits e) out) is whole in
+fits_part cut i j ends out is fits =
+    let here : All (Fits (ends_of cut i j)) out = subst (λ (e : Ends). All (Fits e) out) is fits in
     (λ k d low. (here k d low).source, λ k d low. (here k d low).target)
-
-pub told_some : (told : Option (List ℕ)) (P : List ℕ → Type 0) (file : List ℕ) → told ≡ Some file → IfSome told P → P file
-told_some None P file is had = absurd (cc)
-told_some (Some found) P file is had = let same : found ≡ file = cc in subst P same had
 
 -- that file of a grid
 abbrev file_in : Kind → GridFiles → List ℕ
@@ -105,9 +101,8 @@ module _ (kind : Kind) (edges : List Edge) (cut : Cut) (table : BlockCounts) (to
   file_told = ap (λ (k : CursorState). told k.file) begins ∙ told_in kind told (grid edges cut.vertices cut.parts) is.files
 
   -- it gives the block's edges
-  pub edges_streamed : (n : ℕ) (out : List Edge) → length out ≡ n → IfSome (told cursor.file) (λ bytes. take n out ≡ edges_left cursor bytes) → out ≡ block edges (chunk_of cut) i j
-  edges_streamed n out long had =
-      sym (take_all n out (omega arith)) ∙ told_some (told cursor.file) (λ bytes. take n out ≡ edges_left cursor bytes) bytes_are file_told had ∙ given.is_block
+  pub edges_streamed : (out : List Edge) → IfSome (told cursor.file) (λ bytes. out ≡ edges_left cursor bytes) → out ≡ block edges (chunk_of cut) i j
+  edges_streamed out had = told_some (told cursor.file) (λ bytes. out ≡ edges_left cursor bytes) bytes_are file_told had ∙ given.is_block
 
   -- and finds no word outside its range
   pub never_damaged : {T : Type 0} (fault : FileFault) (result : Result T FileFault) → result ≡ Err fault → IfSome (told cursor.file) (λ bytes. FaultIs result (fault_left cursor bytes)) → IsIntact fault

@@ -11,6 +11,7 @@ pub mod OpenLemmas
 pub mod PassLemmas
 pub mod PassSteps
 pub mod PassedLemmas
+pub mod PieceLemmas
 pub mod ReadLemmas
 pub mod Repeats
 pub mod ReportLemmas

@@ -27,7 +27,7 @@ use Rattle.early_engine.specs.Grids.{IsOnGrid}
 use Rattle.early_engine.specs.Report.{first_lines, shown_lines}
 use Rattle.early_engine.specs.Starts.{given_values}
 use Rattle.early_engine.specs.declared.options.Show.{Show}
-use Rattle.early_engine.proofs.GridLemmas.{told_some}
+use Rattle.lumos_depot.proofs.StepLemmas.{told_some}
 
 -- an `OutInfo` is read from its first twelve bytes
 pub info_front : (n : ℕ) (bytes : List ℕ) → 12 ≤ n → info_from (take n bytes) ≡ info_from bytes

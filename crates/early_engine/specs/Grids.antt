@@ -67,8 +67,3 @@ pub record IsOfPass (kind : Kind) (cut : Cut) (table : BlockCounts) (fault : Fil
 -- a word is no vertex of its part: one of a block that an iteration of a kind goes through
 abbrev pub IsStrayWord : Kind → Cut → BlockCounts → FileKind → ℕ → ℕ → Type 0
 IsStrayWord kind cut table file place found = IsOfPass kind cut table (Damaged file place found)
-
--- the depot failed, and no record was damaged
-abbrev pub IsIntact : FileFault → Type 0
-IsIntact Depot = ⊤
-IsIntact (Damaged file place found) = ⊥

@@ -10,7 +10,8 @@ use Rattle.grid_format.specs.Tables.{BlockCounts}
 use Rattle.io_account.specs.declared.Counts.{Counts}
 use Rattle.lumos_report.specs.declared.records.Kind.{Kind}
 use Rattle.early_engine.specs.Early.{IsKept}
-use Rattle.early_engine.specs.Grids.{IsIntact, IsOfPass}
+use Rattle.value_files.specs.Records.{IsIntact}
+use Rattle.early_engine.specs.Grids.{IsOfPass}
 use Rattle.early_engine.specs.Passes.{counts_in}
 use Rattle.early_engine.specs.declared.iteration.Stop.{Stop}
 use Rattle.early_engine.specs.declared.iteration.Stop.TheVariants.{File, Over}

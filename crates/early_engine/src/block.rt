@@ -1,12 +1,16 @@
 // The edges of a block, read from the file of an iteration's kind.
-ghost use Rattle.std.specs.Prelude.{◌≡◌, ◌≤◌, ◌<◌, ◌+◌, ◌*◌, ℕ, List, All, Err, length, IfErr, IsSome, OnOk};
+ghost use Rattle.std.specs.Prelude.{◌≡◌, ◌≤◌, ◌<◌, ◌+◌, ◌*◌, ℕ, List, All, Err, length, IfErr, IfSome, IsSome, OnOk};
 ghost use Rattle.lumos_base.specs.declared.records.Edge.{Edge};
 ghost use Rattle.lumos_depot.specs.Causes.{Rose};
 ghost use Rattle.partition.specs.Blocks.{block};
 ghost use Rattle.partition.specs.Parts.{chunk_of, IsInPart};
 ghost use Rattle.grid_format.specs.Tables.{count_at};
 ghost use Rattle.lumos_depot.specs.Steps.{Reads, RoseBy};
-ghost use Rattle.early_engine.specs.Grids.{HasBlocks, IsIntact, IsLaid, IsOfBlock, IsOnGrid, place_in};
+ghost use Rattle.value_files.specs.Records.{FaultIs};
+ghost use Rattle.column_stream.specs.Cursors.{IsInside, edges_left, fault_left};
+ghost use Rattle.column_stream.specs.Records.{Fits, IsDamage};
+ghost use Rattle.value_files.specs.Records.{IsIntact};
+ghost use Rattle.early_engine.specs.Grids.{HasBlocks, IsLaid, IsOfBlock, IsOnGrid, place_in};
 ghost use Rattle.early_engine.specs.Passes.{file_of};
 ghost use Rattle.early_engine.specs.Steps.{GoesThrough};
 
@@ -30,6 +34,34 @@ fn place_in(table: &BlockTable, kind: Kind, i: u32, j: u32) -> u64
         Kind::Full => table.primary_place(i, j),
         Kind::Fed => table.secondary_place(i, j),
     }
+}
+
+// Reads all records that are left for a cursor into the places, of which there are as many, a piece at a time.
+fn read_all<D: Depot>(
+    cursor: &mut BlockCursor,
+    depot: &mut D,
+    places: &mut [Edge],
+) -> Result<(), FileFault>
+    requires attached { IsSome (D.attached depot.old) }
+    requires whole { cursor.old.left ≡ length places.old }
+    requires inside { IfSome (D.holds depot.old cursor.old.file) (IsInside cursor.old) }
+    ensures edges { OnOk result (IfSome (D.holds depot.old cursor.old.file) (λ bytes. places.new ≡ edges_left cursor.old bytes)) }
+    ensures fits { OnOk result (All (Fits cursor.old.ends) places.new) }
+    ensures fault { IfSome (D.holds depot.old cursor.old.file) (λ bytes. FaultIs result (fault_left cursor.old bytes)) }
+    ensures damaged { IfErr result (IsDamage cursor.old.file cursor.old.ends cursor.old.place cursor.old.left) }
+    ensures taken { OnOk result (RoseBy (D.taken depot.old cursor.old.file) (D.taken depot.new cursor.old.file) (12 * length places.old)) }
+    ensures most { D.taken depot.new cursor.old.file ≤ D.taken depot.old cursor.old.file + 12 * length places.old }
+    ensures reads { Reads D.holds D.taken D.stored D.faults D.attached cursor.old.file depot.old depot.new }
+    ensures cause { result ≡ Err FileFault.Depot → Rose (D.faults depot.old) (D.faults depot.new) }
+{
+    let mut done = 0;
+    while done < places.len() {
+        match cursor.next(depot, &mut places[done..]) {
+            Ok(count) => done += count,
+            Err(fault) => return Err(fault),
+        }
+    }
+    Ok(())
 }
 
 // Reads the edges from part i into part j into the places, of which there are as many as the block has edges.
@@ -65,8 +97,8 @@ pub(crate) fn load_block<D: Depot>(
     let targets = layout.parts.range_of(j);
     let count = places.len() as u64;
     let mut cursor = BlockCursor::new(file_of(kind), place, count, sources, targets);
-    match cursor.next(depot, places) {
-        Ok(_) => Ok(()),
+    match read_all(&mut cursor, depot, places) {
+        Ok(()) => Ok(()),
         Err(fault) => Err(fault),
     }
 }

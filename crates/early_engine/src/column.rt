@@ -9,7 +9,8 @@ ghost use Rattle.partition.specs.Parts.{chunk_of, part_length};
 ghost use Rattle.lumos_depot.specs.Steps.{Reads};
 ghost use Rattle.grid_format.specs.Tables.{count_at, edges_in_rows};
 ghost use Rattle.early_engine.specs.Gone.{AreOf, HasGone};
-ghost use Rattle.early_engine.specs.Grids.{HasBlocks, IsIntact, IsLaid, IsOfBlock, IsOfPass, IsOnGrid};
+ghost use Rattle.value_files.specs.Records.{IsIntact};
+ghost use Rattle.early_engine.specs.Grids.{HasBlocks, IsLaid, IsOfBlock, IsOfPass, IsOnGrid};
 ghost use Rattle.early_engine.specs.Passes.{Place, place_at, places};
 ghost use Rattle.early_engine.specs.Steps.{AreHot, IsFedTo, IsReady, blocks_in};
 

@@ -9,7 +9,8 @@ ghost use Rattle.partition.specs.Parts.{chunk_of, first_vertex, part_length, IsI
 ghost use Rattle.lumos_depot.specs.Steps.{Reads};
 ghost use Rattle.grid_format.specs.Tables.{count_at};
 ghost use Rattle.early_engine.specs.Gone.{HasGone};
-ghost use Rattle.early_engine.specs.Grids.{HasBlocks, IsIntact, IsLaid, IsOfBlock, IsOnGrid};
+ghost use Rattle.value_files.specs.Records.{IsIntact};
+ghost use Rattle.early_engine.specs.Grids.{HasBlocks, IsLaid, IsOfBlock, IsOnGrid};
 ghost use Rattle.early_engine.specs.Passes.{Place, file_of, is_hot, place_at};
 ghost use Rattle.early_engine.specs.Steps.{GoesThrough, IsFedTo, blocks_in, with_read};
 

@@ -17,38 +17,32 @@ new-cursor-requires g c =
     let few = bytes_few c.args.kind cut table c.requires.laid.0 c.requires.laid.1 in
     omega (arith, inside, few, c.place_in-place.ensures, c.requires.whole)
 
-pub next-requires-clause-inside : goal.next-requires-clause-inside
-next-requires-clause-inside g c =
+pub read_all-requires-clause-inside : goal.read_all-requires-clause-inside
+read_all-requires-clause-inside g c =
     let cut = c.args.layout.now.parts in
     let table = c.args.layout.now.table in
-    cursor_inside c.args.kind cut table c.requires.laid.0 c.args.i c.args.j (g.D.Depot.holds c.args.depot.now) c.new-cursor.result c.requires.laid.1 c.requires.row c.requires.column c.requires.low c.requires.inside (begins g (goal.at.next-requires-clause-inside g c).After-new-cursor)
+    cursor_inside c.args.kind cut table c.requires.laid.0 c.args.i c.args.j (g.D.Depot.holds c.args.depot.now) c.new-cursor.result c.requires.laid.1 c.requires.row c.requires.column c.requires.low c.requires.inside (begins g (goal.at.read_all-requires-clause-inside g c).After-new-cursor)
 
 pub returns-in-Ok-clause-edges : goal.returns-in-Ok-clause-edges
 returns-in-Ok-clause-edges g c edges grid =
     let cut = c.args.layout.now.parts in
     let table = c.args.layout.now.table in
-    edges_streamed c.args.kind edges cut table (g.D.Depot.holds c.args.depot.now) c.args.i c.args.j c.requires.row c.requires.column c.requires.low grid c.new-cursor.result (begins g (goal.at.returns-in-Ok-clause-edges g c).After-new-cursor) c.in-Ok.field-0 c.next.new.out
-    (c.next.auto.out ∙ ap (λ (k : CursorState). k.left) (sym c.new-cursor.ensures) ∙ sym c.in-Ok.ensures.count) c.in-Ok.ensures.edges
+    edges_streamed c.args.kind edges cut table (g.D.Depot.holds c.args.depot.now) c.args.i c.args.j c.requires.row c.requires.column c.requires.low grid c.new-cursor.result (begins g (goal.at.returns-in-Ok-clause-edges g c).After-new-cursor)
+    c.read_all.new.places c.in-Ok.ensures.edges
 
 pub returns-in-Ok-clause-sources : goal.returns-in-Ok-clause-sources
 returns-in-Ok-clause-sources g c =
-    let cut = c.args.layout.now.parts in
-    let table = c.args.layout.now.table in
-    (fits_part cut c.args.i c.args.j c.new-cursor.result.ends c.in-Ok.field-0 c.next.new.out (ap (λ (k : CursorState). k.ends) (begins g (goal.at.returns-in-Ok-clause-sources g c).After-new-cursor))
-    (c.next.auto.out ∙ ap (λ (k : CursorState). k.left) (sym c.new-cursor.ensures) ∙ sym c.in-Ok.ensures.count) c.in-Ok.ensures.fits).0
+    (fits_part c.args.layout.now.parts c.args.i c.args.j c.new-cursor.result.ends c.read_all.new.places (ap (λ (k : CursorState). k.ends) (begins g (goal.at.returns-in-Ok-clause-sources g c).After-new-cursor)) c.in-Ok.ensures.fits).0
 
 pub returns-in-Ok-clause-targets : goal.returns-in-Ok-clause-targets
 returns-in-Ok-clause-targets g c =
-    let cut = c.args.layout.now.parts in
-    let table = c.args.layout.now.table in
-    (fits_part cut c.args.i c.args.j c.new-cursor.result.ends c.in-Ok.field-0 c.next.new.out (ap (λ (k : CursorState). k.ends) (begins g (goal.at.returns-in-Ok-clause-targets g c).After-new-cursor))
-    (c.next.auto.out ∙ ap (λ (k : CursorState). k.left) (sym c.new-cursor.ensures) ∙ sym c.in-Ok.ensures.count) c.in-Ok.ensures.fits).1
+    (fits_part c.args.layout.now.parts c.args.i c.args.j c.new-cursor.result.ends c.read_all.new.places (ap (λ (k : CursorState). k.ends) (begins g (goal.at.returns-in-Ok-clause-targets g c).After-new-cursor)) c.in-Ok.ensures.fits).1
 
 pub returns-in-Err-clause-intact : goal.returns-in-Err-clause-intact
 returns-in-Err-clause-intact g c edges grid =
     let cut = c.args.layout.now.parts in
     let table = c.args.layout.now.table in
-    never_damaged c.args.kind edges cut table (g.D.Depot.holds c.args.depot.now) c.args.i c.args.j c.requires.row c.requires.column c.requires.low grid c.new-cursor.result (begins g (goal.at.returns-in-Err-clause-intact g c).After-new-cursor) c.in-Err.fault c.next.result c.in-Err.is c.next.ensures.fault
+    never_damaged c.args.kind edges cut table (g.D.Depot.holds c.args.depot.now) c.args.i c.args.j c.requires.row c.requires.column c.requires.low grid c.new-cursor.result (begins g (goal.at.returns-in-Err-clause-intact g c).After-new-cursor) c.in-Err.fault c.read_all.result c.in-Err.is c.read_all.ensures.fault
 
 pub returns-in-Err-clause-damaged : goal.returns-in-Err-clause-damaged
 returns-in-Err-clause-damaged g c =

@@ -1,0 +1,9 @@
+pub mod BudgetLemmas
+pub mod FeedLemmas
+pub mod FrameLemmas
+pub mod InitialLemmas
+pub mod KeptLemmas
+pub mod ListLemmas
+pub mod LoadLemmas
+pub mod PartLemmas
+pub mod ResultLemmas

@@ -44,6 +44,41 @@ chunk_long cut j xs reach =
     let ends = part_ends cut.vertices (chunk_of cut) j in
     length-take-le (part_length cut.vertices (chunk_of cut) j) (drop first xs) (omega (arith, ends, length-drop first xs))
 
+-- values that are put where those of chunk j after iteration t stand leave what stands of other chunks, or after other iterations
+module _ {X : Type 0} (cut : Cut) (t j u k : ℕ) (even odd even' odd' values : List X) where
+  pub beside : IsOther t j u k → length values ≡ part_length cut.vertices (chunk_of cut) j → first_vertex cut.vertices (chunk_of cut) j + part_length cut.vertices (chunk_of cut) j ≤ length (turn_list t even odd)
+      → even' ≡ cond (t % 2 == 1) even (put_in (first_vertex cut.vertices (chunk_of cut) j) values even) → odd' ≡ cond (t % 2 == 1) (put_in (first_vertex cut.vertices (chunk_of cut) j) values odd) odd
+      → chunk_in cut k (turn_list u even' odd') ≡ chunk_in cut k (turn_list u even odd)
+  beside other long room e o = by_other other
+    where
+      place : ℕ → ℕ
+      place i = first_vertex cut.vertices (chunk_of cut) i
+
+      count : ℕ → ℕ
+      count i = part_length cut.vertices (chunk_of cut) i
+
+      reach : k ≢ j → (place k + count k ≤ place j) ⊎ (place j + length values ≤ place k)
+      reach apart = subst (λ (m : ℕ). (place k + count k ≤ place j) ⊎ (place j + m ≤ place k)) (sym long) (parts_apart cut.vertices (chunk_of cut) j k apart)
+
+      room_at : {a : ℕ} → a ≡ t % 2 → place j + count j ≤ length (cond (a == 1) odd even)
+      room_at {a = a} ta = subst (λ (m : ℕ). place j + count j ≤ length (cond (m == 1) odd even)) (sym ta) room
+
+      bits : (a b : ℕ) → a ≡ t % 2 → b ≡ u % 2 → a < 2 → b < 2 → (a ≢ b) ⊎ (k ≢ j) → chunk_in cut k (turn_list u even' odd') ≡ chunk_in cut k (turn_list u even odd)
+      bits zero zero ta ub la lb (inl apart) = absurd (apart refl)
+      bits (suc zero) (suc zero) ta ub la lb (inl apart) = absurd (apart refl)
+      bits zero zero ta ub la lb (inr apart) = (λ i. chunk_in cut k (cond (sym ub i == 1) odd' even')) ∙ ap (chunk_in cut k) (e ∙ (λ i. cond (sym ta i == 1) even (put_in (place j) values even)))
+          ∙ put_apart (place j) values even (omega (arith, long, room_at ta)) (place k) (count k) (reach apart) ∙ (λ i. chunk_in cut k (cond (ub i == 1) odd even))
+      bits (suc zero) (suc zero) ta ub la lb (inr apart) = (λ i. chunk_in cut k (cond (sym ub i == 1) odd' even')) ∙ ap (chunk_in cut k) (o ∙ (λ i. cond (sym ta i == 1) (put_in (place j) values odd) odd))
+          ∙ put_apart (place j) values odd (omega (arith, long, room_at ta)) (place k) (count k) (reach apart) ∙ (λ i. chunk_in cut k (cond (ub i == 1) odd even))
+      bits zero (suc zero) ta ub la lb apart = (λ i. chunk_in cut k (cond (sym ub i == 1) odd' even')) ∙ ap (chunk_in cut k) (o ∙ (λ i. cond (sym ta i == 1) (put_in (place j) values odd) odd)) ∙ (λ i. chunk_in cut k (cond (ub i == 1) odd even))
+      bits (suc zero) zero ta ub la lb apart = (λ i. chunk_in cut k (cond (sym ub i == 1) odd' even')) ∙ ap (chunk_in cut k) (e ∙ (λ i. cond (sym ta i == 1) even (put_in (place j) values even))) ∙ (λ i. chunk_in cut k (cond (ub i == 1) odd even))
+      bits (suc (suc a)) b ta ub la lb apart = absurd (omega arith)
+      bits a (suc (suc b)) ta ub la lb apart = absurd (omega arith)
+
+      by_other : IsOther t j u k → chunk_in cut k (turn_list u even' odd') ≡ chunk_in cut k (turn_list u even odd)
+      by_other (inl turn) = bits (t % 2) (u % 2) refl refl (mod-lt t (omega arith)) (mod-lt u (omega arith)) (inl (λ same. turn (sym same)))
+      by_other (inr apart) = bits (t % 2) (u % 2) refl refl (mod-lt t (omega arith)) (mod-lt u (omega arith)) (inr apart)
+
 module _ {V : Type 0} (value_of : List ℕ → Option V) (w : ℕ) where
   -- told values are one list
   pub told_same_list : (place : ℕ) (xs ys : List V) (told : Option (List ℕ)) → length xs ≡ length ys → AreTold value_of w place xs told → IfSome told (AreRecords value_of w place ys) → ys ≡ xs
@@ -108,30 +143,11 @@ module _ {V : Type 0} (value_of : List ℕ → Option V) (w : ℕ) where
         apart_by (inr apart) = grow (turn_cases (cases_eq (u % 2) (t % 2)) apart)
 
     -- values that are put into those in memory leave the others there
-    pub kept_beside : (t j u k : ℕ) (even odd even' odd' values : List V) (told : Option (List ℕ)) (xs : List V) → IsOther t j u k → length values ≡ len j → first j + len j ≤ length even → first j + len j ≤ length odd
+    pub kept_beside : (t j u k : ℕ) (even odd even' odd' values : List V) (told : Option (List ℕ)) (xs : List V) → IsOther t j u k → length values ≡ len j → first j + len j ≤ length (turn_list t even odd)
         → even' ≡ cond (t % 2 == 1) even (put_in (first j) values even) → odd' ≡ cond (t % 2 == 1) (put_in (first j) values odd) odd
         → AreKept value_of w cut pinned u k even odd told xs → AreKept value_of w cut pinned u k even' odd' told xs
-    kept_beside t j u k even odd even' odd' values told xs other long room_even room_odd e o kept = record {
+    kept_beside t j u k even odd even' odd' values told xs other long room e o kept = record {
       long = kept.long;
-      in_memory = λ low. kept.in_memory low ∙ sym (stays other);
+      in_memory = λ low. kept.in_memory low ∙ sym (beside cut t j u k even odd even' odd' values other long room e o);
       in_file = kept.in_file;
     }
-      where
-        reach : (xs : List V) → k ≢ j → (first k + len k ≤ first j) ⊎ (first j + length values ≤ first k)
-        reach xs apart = subst (λ (m : ℕ). (first k + len k ≤ first j) ⊎ (first j + m ≤ first k)) (sym long) (parts_apart cut.vertices (chunk_of cut) j k apart)
-
-        bits : (a b : ℕ) → a ≡ t % 2 → b ≡ u % 2 → a < 2 → b < 2 → (a ≢ b) ⊎ (k ≢ j) → chunk_in cut k (turn_list u even' odd') ≡ chunk_in cut k (turn_list u even odd)
-        bits zero zero ta ub la lb (inl apart) = absurd (apart refl)
-        bits (suc zero) (suc zero) ta ub la lb (inl apart) = absurd (apart refl)
-        bits zero zero ta ub la lb (inr apart) = (λ i. chunk_in cut k (cond (sym ub i == 1) odd' even')) ∙ ap (chunk_in cut k) (e ∙ (λ i. cond (sym ta i == 1) even (put_in (first j) values even)))
-            ∙ put_apart (first j) values even (omega (arith, long)) (first k) (len k) (reach even apart) ∙ (λ i. chunk_in cut k (cond (ub i == 1) odd even))
-        bits (suc zero) (suc zero) ta ub la lb (inr apart) = (λ i. chunk_in cut k (cond (sym ub i == 1) odd' even')) ∙ ap (chunk_in cut k) (o ∙ (λ i. cond (sym ta i == 1) (put_in (first j) values odd) odd))
-            ∙ put_apart (first j) values odd (omega (arith, long)) (first k) (len k) (reach odd apart) ∙ (λ i. chunk_in cut k (cond (ub i == 1) odd even))
-        bits zero (suc zero) ta ub la lb apart = (λ i. chunk_in cut k (cond (sym ub i == 1) odd' even')) ∙ ap (chunk_in cut k) (o ∙ (λ i. cond (sym ta i == 1) (put_in (first j) values odd) odd)) ∙ (λ i. chunk_in cut k (cond (ub i == 1) odd even))
-        bits (suc zero) zero ta ub la lb apart = (λ i. chunk_in cut k (cond (sym ub i == 1) odd' even')) ∙ ap (chunk_in cut k) (e ∙ (λ i. cond (sym ta i == 1) even (put_in (first j) values even))) ∙ (λ i. chunk_in cut k (cond (ub i == 1) odd even))
-        bits (suc (suc a)) b ta ub la lb apart = absurd (omega arith)
-        bits a (suc (suc b)) ta ub la lb apart = absurd (omega arith)
-
-        stays : IsOther t j u k → chunk_in cut k (turn_list u even' odd') ≡ chunk_in cut k (turn_list u even odd)
-        stays (inl turn) = bits (t % 2) (u % 2) refl refl (mod-lt t (omega arith)) (mod-lt u (omega arith)) (inl (λ same. turn (sym same)))
-        stays (inr apart) = bits (t % 2) (u % 2) refl refl (mod-lt t (omega arith)) (mod-lt u (omega arith)) (inr apart)

@@ -5,5 +5,7 @@ pub mod InitialLemmas
 pub mod KeptLemmas
 pub mod ListLemmas
 pub mod LoadLemmas
+pub mod MadeLemmas
 pub mod PartLemmas
 pub mod ResultLemmas
+pub mod StayLemmas

@@ -1,12 +1,12 @@
 -- How what windows show, keep and store goes from one step to the next: for layers that take many steps.
-use Rattle.std.proofs.Common.{◌≡◌, ◌≢◌, ◌⊎◌, ℕ, ◌<◌, ◌≤◌, List, length, take, Option, refl, sym, ap, subst, ◌∙◌, arith}
+use Rattle.std.proofs.Common.{◌≡◌, ◌≢◌, ℕ, ◌<◌, ◌≤◌, List, length, take, Option, refl, sym, ap, subst, ◌∙◌, arith}
 use Rattle.lumos_base.specs.declared.records.Edge.{Edge}
 use Rattle.lumos_depot.specs.Files.{Same}
 use Rattle.lumos_depot.specs.declared.depot.FileKind.TheVariants.{Values, Sums}
 use Rattle.lumos_law.specs.Program.{Program}
 use Rattle.lumos_law.specs.Sync.{sum_at, IsChunk}
 use Rattle.partition.specs.Parts.{Cut, chunk_of, first_vertex, part_length}
-use Rattle.windows.specs.Kept.{AreKept, AreStored, IsOther, Keeps, KeepsList, KeepsPart, StoresList, Stays, StaysBut, StaysButSums}
+use Rattle.windows.specs.Kept.{AreKept, AreStored, IsOther, Keeps, KeepsList, StoresList, Stays, StaysBut, StaysButSums}
 use Rattle.windows.specs.Sums.{HasNext, HasSums, IsFirst, IsSecond, StoresEarly}
 use Rattle.windows.specs.Windows.{Coding, IsSameRoom, IsSized, Told, WindowState, chunk_count, chunk_first, chunk_in, turn_list}
 
@@ -19,7 +19,7 @@ holds_same : {V S : Type 0} (p : Program V S) (cut cut' : Cut) (j : ℕ) (state 
 holds_same p cut cut' j state edges xs ys same items held =
     subst (λ (c : Cut). HoldsSums p c j state edges ys) (sym same) (subst (HoldsSums p cut j state edges) (sym items) held)
 
-module _ {V S : Type 0} (coding : Coding V S) where
+module _ {V S : Type 0} where
   -- the same windows as before
   pub room_none : (w : WindowState V S) → IsSameRoom w w
   room_none w = record { cut = refl; budget = refl; pinned = refl; value_room = refl; sum_room = refl }
@@ -40,6 +40,32 @@ module _ {V S : Type 0} (coding : Coding V S) where
   pub count_same : (old new : WindowState V S) (j : ℕ) → IsSameRoom old new → chunk_count new j ≡ chunk_count old j
   count_same old new j room = ap (λ (c : Cut). part_length c.vertices (chunk_of c) j) room.cut
 
+  -- What windows show stays where a step leaves the windows that show it: the equations are fields of its clause `alone`.
+  pub first_stays : (old new : WindowState V S) (i : ℕ) (state : ℕ → V) → new.cut ≡ old.cut → new.first_part ≡ old.first_part → new.first ≡ old.first → IsFirst old i state → IsFirst new i state
+  first_stays old new i state cut part items is = record {
+    part = part ∙ is.part;
+    long = ap length items ∙ is.long ∙ (λ k. part_length (sym cut k).vertices (chunk_of (sym cut k)) i);
+    chunk = subst (λ (c : Cut). IsChunk state (first_vertex c.vertices (chunk_of c) i) new.first) (sym cut) (subst (IsChunk state (chunk_first old i)) (sym items) is.chunk);
+  }
+
+  pub second_stays : (old new : WindowState V S) (i : ℕ) (state : ℕ → V) → new.cut ≡ old.cut → new.second_part ≡ old.second_part → new.second ≡ old.second → IsSecond old i state → IsSecond new i state
+  second_stays old new i state cut part items is = record {
+    part = part ∙ is.part;
+    long = ap length items ∙ is.long ∙ (λ k. part_length (sym cut k).vertices (chunk_of (sym cut k)) i);
+    chunk = subst (λ (c : Cut). IsChunk state (first_vertex c.vertices (chunk_of c) i) new.second) (sym cut) (subst (IsChunk state (chunk_first old i)) (sym items) is.chunk);
+  }
+
+  pub has_sums_stays : (p : Program V S) (old new : WindowState V S) (j : ℕ) (state : ℕ → V) (edges : List Edge) → new.cut ≡ old.cut → new.sums_part ≡ old.sums_part → new.sums ≡ old.sums → HasSums p old j state edges → HasSums p new j state edges
+  has_sums_stays p old new j state edges cut part items has =
+      let came = holds_same p old.cut new.cut j state edges old.sums new.sums cut items (record { long = has.long; chunk = has.chunk }) in
+      record { part = part ∙ has.part; long = came.long; chunk = came.chunk }
+
+  pub has_next_stays : (p : Program V S) (old new : WindowState V S) (j : ℕ) (state : ℕ → V) (edges : List Edge) → new.cut ≡ old.cut → new.sums_part ≡ old.sums_part → new.next_sums ≡ old.next_sums → HasNext p old j state edges → HasNext p new j state edges
+  has_next_stays p old new j state edges cut part items has =
+      let came = holds_same p old.cut new.cut j state edges old.next_sums new.next_sums cut items (record { long = has.long; chunk = has.chunk }) in
+      record { part = part ∙ has.part; long = came.long; chunk = came.chunk }
+
+module _ {V S : Type 0} (coding : Coding V S) where
   module _ (old new : WindowState V S) (before after : Told) (room : IsSameRoom old new) where
     -- values in windows that are cut alike
     pub keeps_moved : (t j : ℕ) (xs : List V) → AreKept coding.value_of coding.value_width old.cut old.pinned t j new.even new.odd (after Values) xs → KeepsList coding new after t j xs
@@ -136,28 +162,3 @@ module _ {V S : Type 0} (coding : Coding V S) where
     values_size = rw (values, ap (λ (c : Cut). c.vertices) room.cut) sized.values_size;
     sums_size = rw (sums, ap (λ (c : Cut). c.vertices) room.cut) sized.sums_size;
   }
-
-  -- What windows show stays where a step leaves the windows that show it: the equations are fields of its clause `alone`.
-  pub first_stays : (old new : WindowState V S) (i : ℕ) (state : ℕ → V) → new.cut ≡ old.cut → new.first_part ≡ old.first_part → new.first ≡ old.first → IsFirst old i state → IsFirst new i state
-  first_stays old new i state cut part items is = record {
-    part = part ∙ is.part;
-    long = ap length items ∙ is.long ∙ (λ k. part_length (sym cut k).vertices (chunk_of (sym cut k)) i);
-    chunk = subst (λ (c : Cut). IsChunk state (first_vertex c.vertices (chunk_of c) i) new.first) (sym cut) (subst (IsChunk state (chunk_first old i)) (sym items) is.chunk);
-  }
-
-  pub second_stays : (old new : WindowState V S) (i : ℕ) (state : ℕ → V) → new.cut ≡ old.cut → new.second_part ≡ old.second_part → new.second ≡ old.second → IsSecond old i state → IsSecond new i state
-  second_stays old new i state cut part items is = record {
-    part = part ∙ is.part;
-    long = ap length items ∙ is.long ∙ (λ k. part_length (sym cut k).vertices (chunk_of (sym cut k)) i);
-    chunk = subst (λ (c : Cut). IsChunk state (first_vertex c.vertices (chunk_of c) i) new.second) (sym cut) (subst (IsChunk state (chunk_first old i)) (sym items) is.chunk);
-  }
-
-  pub has_sums_stays : (p : Program V S) (old new : WindowState V S) (j : ℕ) (state : ℕ → V) (edges : List Edge) → new.cut ≡ old.cut → new.sums_part ≡ old.sums_part → new.sums ≡ old.sums → HasSums p old j state edges → HasSums p new j state edges
-  has_sums_stays p old new j state edges cut part items has =
-      let came = holds_same p old.cut new.cut j state edges old.sums new.sums cut items (record { long = has.long; chunk = has.chunk }) in
-      record { part = part ∙ has.part; long = came.long; chunk = came.chunk }
-
-  pub has_next_stays : (p : Program V S) (old new : WindowState V S) (j : ℕ) (state : ℕ → V) (edges : List Edge) → new.cut ≡ old.cut → new.sums_part ≡ old.sums_part → new.next_sums ≡ old.next_sums → HasNext p old j state edges → HasNext p new j state edges
-  has_next_stays p old new j state edges cut part items has =
-      let came = holds_same p old.cut new.cut j state edges old.next_sums new.next_sums cut items (record { long = has.long; chunk = has.chunk }) in
-      record { part = part ∙ has.part; long = came.long; chunk = came.chunk }

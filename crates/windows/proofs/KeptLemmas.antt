@@ -1,20 +1,19 @@
 -- Values that are kept, and that stay where others are kept.
-use Rattle.std.proofs.Common.{◌≡◌, ◌≢◌, ◌⊎◌, inl, inr, ℕ, zero, suc, ◌+◌, ◌-◌, ◌*◌, ◌%◌, ◌==◌, ◌<◌, ◌≤◌, nat_lt, Bool, true, false, cond, List, length, take, drop, Option, Some, None, refl, sym, ap, subst, ◌∙◌, arith, length-drop}
+use Rattle.std.proofs.Common.{◌≡◌, ◌≢◌, ◌⊎◌, inl, inr, ℕ, zero, suc, ◌+◌, ◌*◌, ◌%◌, ◌==◌, ◌<◌, ◌≤◌, Bool, true, false, cond, List, length, take, drop, Option, Some, None, refl, sym, ap, subst, ◌∙◌, arith, length-drop}
 use Rattle.std.specs.Prelude.{IfSome, IsSome, is_some}
 use Rattle.std.proofs.Math.Nat.{mod-lt}
 use Rattle.std.proofs.lemmas.Bool.{cases_eq, le-ltb, lt-ltb}
 use Rattle.std.proofs.lemmas.List.{length-take-le}
 use Rattle.lumos_depot.specs.Files.{SameOutsideTold}
-use Rattle.lumos_law.specs.Sync.{IsChunk}
 use Rattle.partition.specs.Parts.{Cut, chunk_of, first_vertex, part_length}
 use Rattle.value_files.specs.Kept.{value_place}
 use Rattle.value_files.specs.Records.{AreRecords, AreTold}
 use Rattle.value_files.proofs.OutsideLemmas.{told_are_outside}
 use Rattle.value_files.proofs.PlaceLemmas.{turns_are_apart, values_apart}
 use Rattle.value_files.proofs.RecordLemmas.{are_same}
-use Rattle.windows.specs.Kept.{AreFiled, AreKept, IsOther, KeepsPart}
+use Rattle.windows.specs.Kept.{AreFiled, AreKept, IsOther}
 use Rattle.windows.specs.Windows.{chunk_in, put_in, shown_of, turn_list}
-use Rattle.windows.proofs.ListLemmas.{put_apart, put_here}
+use Rattle.windows.proofs.ListLemmas.{put_apart}
 use Rattle.windows.proofs.PartLemmas.{part_ends, part_inside, parts_apart}
 
 -- what is told is told

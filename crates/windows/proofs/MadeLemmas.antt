@@ -1,10 +1,9 @@
 -- What windows keep and show of a chunk whose values were made, in memory or in Values.
-use Rattle.std.proofs.Common.{◌≡◌, ◌≢◌, ◌⊎◌, inl, inr, ℕ, ◌+◌, ◌-◌, ◌*◌, ◌%◌, ◌==◌, ◌<◌, ◌≤◌, nat_lt, cond, List, length, take, drop, Option, Some, None, true, Result, Ok, Err, refl, sym, ap, subst, ◌∙◌, arith}
-use Rattle.std.specs.Prelude.{⊤, IfOk, IfSome, IsSome, OnOk, is_some}
-use Rattle.std.proofs.lemmas.Bool.{cases_lt, le-ltb, lt-ltb}
+use Rattle.std.proofs.Common.{◌≡◌, ◌≢◌, inl, inr, ℕ, ◌+◌, ◌-◌, ◌*◌, ◌%◌, ◌==◌, ◌<◌, ◌≤◌, nat_lt, cond, List, length, take, drop, Option, Some, None, Result, Ok, Err, sym, ap, subst, ◌∙◌, arith}
+use Rattle.std.specs.Prelude.{IfOk, IfSome, OnOk}
+use Rattle.std.proofs.lemmas.Bool.{le-ltb, lt-ltb}
 use Rattle.std.proofs.lemmas.List.{length-take-le}
 use Rattle.lumos_depot.specs.Steps.{RoseBy}
-use Rattle.lumos_depot.specs.declared.depot.FileKind.TheVariants.{Values}
 use Rattle.lumos_law.specs.Program.{Program}
 use Rattle.lumos_law.specs.Sync.{IsChunk}
 use Rattle.partition.specs.Parts.{Cut, chunk_of, first_vertex, part_length, part_range}
@@ -13,10 +12,10 @@ use Rattle.flight_core.specs.Finish.{applied, finish_of}
 use Rattle.flight_core.specs.declared.steps.Finish.{Finish}
 use Rattle.value_files.specs.Kept.{value_place}
 use Rattle.value_files.specs.Records.{AreTold}
-use Rattle.windows.specs.Kept.{AreFiled, AreKept, Keeps, KeepsPart, load_of}
+use Rattle.windows.specs.Kept.{AreFiled, KeepsPart, load_of}
 use Rattle.windows.specs.Sums.{IsFirst}
-use Rattle.windows.specs.Windows.{Coding, Told, WindowState, chunk_count, chunk_first, chunk_in, put_in, shown_of, turn_list}
-use Rattle.windows.proofs.KeptLemmas.{beside, chunk_long, filed_kept, memory_kept, shown_high, shown_low}
+use Rattle.windows.specs.Windows.{WindowState, chunk_count, chunk_first, chunk_in, put_in, shown_of, turn_list}
+use Rattle.windows.proofs.KeptLemmas.{beside, chunk_long, filed_kept, kept_beside, memory_kept, shown_high, shown_low}
 
 module _ {V S : Type 0} (new : WindowState V S) (t j : ℕ) (state : ℕ → V) where
   -- in memory
@@ -25,6 +24,13 @@ module _ {V S : Type 0} (new : WindowState V S) (t j : ℕ) (state : ℕ → V) 
   memory_first items even odd part shows low reach chunk =
       let is = shows ∙ shown_low new.cut new.pinned j t items even odd low in
       record { part = part; long = ap length is ∙ chunk_long new.cut j (turn_list t even odd) reach; chunk = subst (IsChunk state (chunk_first new j)) (sym is) chunk }
+
+  -- in memory, by what is kept
+  pub kept_first : (value_of : List ℕ → Option V) (w : ℕ) (told : Option (List ℕ)) (items even odd : List V) → new.first_part ≡ j → new.first ≡ shown_of new.cut new.pinned j t items even odd → j < new.pinned
+      → KeepsPart value_of w new.cut new.pinned t j even odd told state → IsFirst new j state
+  kept_first value_of w told items even odd part shows low keeps =
+      let is = shows ∙ shown_low new.cut new.pinned j t items even odd low ∙ sym (keeps.kept.in_memory low) in
+      record { part = part; long = ap length is ∙ keeps.kept.long; chunk = subst (IsChunk state (chunk_first new j)) (sym is) keeps.chunk }
 
   -- in the window
   pub window_first : (items even odd : List V) → new.first_part ≡ j → new.first ≡ shown_of new.cut new.pinned j t items even odd → new.pinned ≤ j → chunk_count new j ≤ length items
@@ -46,6 +52,21 @@ module _ {V : Type 0} (value_of : List ℕ → Option V) (w : ℕ) (cut : Cut) (
 
   pub file_keeps : (xs : List V) → pinned ≤ j → AreFiled value_of w cut t j told xs → IsChunk state (first_vertex cut.vertices (chunk_of cut) j) xs → KeepsPart value_of w cut pinned t j now_even now_odd told state
   file_keeps xs high filed chunk = record { items = xs; kept = filed_kept value_of w cut pinned t j now_even now_odd told xs high filed; chunk = chunk }
+
+-- an iteration is even where the next one is odd
+pub turns_differ : (t u : ℕ) → t ≡ u + 1 → u % 2 ≢ t % 2
+turns_differ t u next same = omega (arith, next, same)
+
+-- the values before stay where those of the next iteration are put
+pub before_stays : {V : Type 0} (value_of : List ℕ → Option V) (w : ℕ) (cut : Cut) (pinned t u j : ℕ) (even odd even' odd' values : List V) (told : Option (List ℕ)) (state : ℕ → V) → t ≡ u + 1 → length values ≡ part_length cut.vertices (chunk_of cut) j
+    → first_vertex cut.vertices (chunk_of cut) j + part_length cut.vertices (chunk_of cut) j ≤ length (turn_list t even odd)
+    → even' ≡ cond (t % 2 == 1) even (put_in (first_vertex cut.vertices (chunk_of cut) j) values even) → odd' ≡ cond (t % 2 == 1) (put_in (first_vertex cut.vertices (chunk_of cut) j) values odd) odd
+    → KeepsPart value_of w cut pinned u j even odd told state → KeepsPart value_of w cut pinned u j even' odd' told state
+before_stays value_of w cut pinned t u j even odd even' odd' values told state next long room e o keeps = record {
+  items = keeps.items;
+  kept = kept_beside value_of w cut pinned t j u j even odd even' odd' values told keeps.items (inl (turns_differ t u next)) long room e o keeps.kept;
+  chunk = keeps.chunk;
+}
 
 -- a window shows what it did, where values are put beside that
 pub shown_beside : {X : Type 0} (cut : Cut) (pinned t j u k : ℕ) (items even odd even' odd' values : List X) → k ≢ j → length values ≡ part_length cut.vertices (chunk_of cut) j

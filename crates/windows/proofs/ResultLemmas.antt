@@ -1,12 +1,12 @@
 -- What follows of an answer.
-use Rattle.std.proofs.Common.{◌≡◌, ℕ, ◌+◌, ◌*◌, ◌<◌, ◌≤◌, List, length, map, Option, Some, None, Result, Ok, Err, refl, sym, ap, subst, ◌∙◌, arith}
-use Rattle.std.specs.Prelude.{⊤, IfSome, IfErr, IfOk, OnOk}
+use Rattle.std.proofs.Common.{◌≡◌, ℕ, List, length, map, Option, Some, None, Result, Ok, Err, sym, ap, ◌∙◌}
+use Rattle.std.specs.Prelude.{IfSome, IfErr, IfOk, OnOk}
 use Rattle.lumos_depot.specs.Steps.{Moves, Stores}
 use Rattle.lumos_depot.specs.declared.depot.FileKind.{FileKind}
 use Rattle.lumos_depot.proofs.StepLemmas.{same_all_but}
 use Rattle.value_files.specs.declared.fault.FileFault.{FileFault}
 use Rattle.value_files.specs.declared.fault.FileFault.TheVariants.{Depot, Damaged}
-use Rattle.value_files.specs.Records.{AreRecords, AreTold, FaultIs, IsIntact, damage_at, records_at}
+use Rattle.value_files.specs.Records.{AreTold, FaultIs, IsIntact, damage_at, records_at}
 use Rattle.value_files.proofs.DamageLemmas.{sound}
 
 pub on_ok_more : {T E : Type 0} (result : Result T E) (P Q : Type 0) → (P → Q) → OnOk result P → OnOk result Q

@@ -1,7 +1,7 @@
 -- What stays of the values that are kept and of the sums that are stored, and what windows show, where the windows before are
 -- seen by their fields.
-use Rattle.std.proofs.Common.{◌≡◌, ◌≢◌, ◌⊎◌, ℕ, ◌+◌, ◌*◌, ◌%◌, ◌==◌, ◌<◌, ◌≤◌, cond, List, length, take, Option, Result, refl, sym, ap, subst, ◌∙◌}
-use Rattle.std.specs.Prelude.{IfErr, OnOk}
+use Rattle.std.proofs.Common.{◌≡◌, ◌≢◌, ◌⊎◌, ℕ, ◌+◌, ◌*◌, ◌%◌, ◌==◌, ◌≤◌, cond, List, length, take, Option, Result, refl, sym, ap, subst, ◌∙◌}
+use Rattle.std.specs.Prelude.{OnOk}
 use Rattle.lumos_base.specs.declared.records.Edge.{Edge}
 use Rattle.lumos_depot.specs.Files.{Same, SameOutsideTold}
 use Rattle.lumos_depot.proofs.OutsideLemmas.{told_outside_long}
@@ -11,12 +11,10 @@ use Rattle.lumos_law.specs.Program.{Program}
 use Rattle.lumos_law.specs.Sync.{sum_at, IsChunk}
 use Rattle.partition.specs.Parts.{Cut, chunk_of, first_vertex, part_length}
 use Rattle.value_files.specs.Kept.{sum_place, value_place}
-use Rattle.value_files.specs.Records.{AreTold, IsIntact}
-use Rattle.value_files.specs.declared.fault.FileFault.{FileFault}
 use Rattle.value_files.proofs.OutsideLemmas.{told_are_outside}
 use Rattle.value_files.proofs.PlaceLemmas.{sums_apart}
-use Rattle.windows.specs.Kept.{AreKept, AreStored, IsOther, Keeps, KeepsList, Stays, StaysBut, StaysButSums, StoresList}
-use Rattle.windows.specs.Sums.{IsFirst, IsSecond, StoresEarly}
+use Rattle.windows.specs.Kept.{AreKept, AreStored, IsOther, Keeps, KeepsList, KeepsPart, Stays, StaysBut, StaysButSums, StoresList}
+use Rattle.windows.specs.Sums.{HasSums, IsFirst, IsSecond, StoresEarly}
 use Rattle.windows.specs.Windows.{Coding, IsSameRoom, IsSized, Told, WindowState, chunk_count, chunk_first, put_in, turn_list}
 use Rattle.windows.proofs.FrameLemmas.{keeps_moved, sized_same, stays_same, stored_moved, sums_same, values_same}
 use Rattle.windows.proofs.KeptLemmas.{kept_beside, kept_outside, kept_same}
@@ -117,3 +115,18 @@ module _ {V S : Type 0} (value_of : List ℕ → Option V) (w : ℕ) (sum_of : L
   -- the stored sums of edges, where the windows are seen by their fields
   abbrev pub early_seen : (p : Program V S) (view now : WindowState V S) (before : Told) (seen : view ≡ now) (j : ℕ) (state : ℕ → V) (edges : List Edge) → StoresEarly coding p now before j state edges → StoresEarly coding p view before j state edges
   early_seen p view now before seen j state edges early = subst (λ (x : WindowState V S). StoresEarly coding p x before j state edges) (sym seen) early
+
+  -- the kept values of a state, in lists that are those in memory
+  pub keeps_seen : (view now : WindowState V S) (before : Told) (seen : view ≡ now) (t j : ℕ) (state : ℕ → V) (even odd : List V) → even ≡ view.even → odd ≡ view.odd → Keeps coding now before t j state
+      → KeepsPart value_of w view.cut view.pinned t j even odd (before Values) state
+  keeps_seen view now before seen t j state even odd e o keeps =
+      subst (λ (xs : List V). KeepsPart value_of w view.cut view.pinned t j xs odd (before Values) state) (sym e)
+      (subst (λ (xs : List V). KeepsPart value_of w view.cut view.pinned t j view.even xs (before Values) state) (sym o)
+      (subst (λ (x : WindowState V S). Keeps coding x before t j state) (sym seen) keeps))
+
+-- the sums of edges, in a list that is that of the first window over sums
+pub sums_seen : {V S : Type 0} (p : Program V S) (view now : WindowState V S) (seen : view ≡ now) (j : ℕ) (state : ℕ → V) (edges : List Edge) (xs : List S) → xs ≡ view.sums → HasSums p now j state edges
+    → IsChunk (sum_at p edges state) (chunk_first view j) (take (chunk_count view j) xs)
+sums_seen p view now seen j state edges xs is has =
+    let here = subst (λ (x : WindowState _ _). HasSums p x j state edges) (sym seen) has in
+    subst (λ (l : List _). IsChunk (sum_at p edges state) (chunk_first view j) (take (chunk_count view j) l)) (sym is) here.chunk

@@ -1,5 +1,5 @@
 -- The values and the sums that windows and their files keep from one iteration to the next.
-use Rattle.std.specs.Prelude.{◌≡◌, ◌≢◌, ◌≤◌, ◌<◌, ◌⊎◌, ℕ, ◌+◌, ◌*◌, ◌-◌, ◌%◌, List, length, nat_lt, cond, Option}
+use Rattle.std.specs.Prelude.{◌≡◌, ◌≢◌, ◌≤◌, ◌<◌, ◌⊎◌, ℕ, ◌*◌, ◌-◌, ◌%◌, List, length, nat_lt, cond, Option}
 use Rattle.lumos_depot.specs.declared.depot.FileKind.TheVariants.{Values, Sums}
 use Rattle.lumos_law.specs.Sync.{IsChunk}
 use Rattle.partition.specs.Parts.{Cut, chunk_of, first_vertex, part_length}

@@ -1,5 +1,5 @@
 -- What windows show: the values of a state, and the sums of what edges give by it.
-use Rattle.std.specs.Prelude.{◌≡◌, ◌<◌, ◌≤◌, ℕ, ◌*◌, List, length, take, drop}
+use Rattle.std.specs.Prelude.{◌≡◌, ◌≤◌, ℕ, ◌*◌, List, length, take, drop}
 use Rattle.lumos_base.specs.Records.{info_from}
 use Rattle.lumos_base.specs.declared.records.Edge.{Edge}
 use Rattle.lumos_law.specs.Program.{Program}

@@ -1,5 +1,5 @@
 -- Windows over chunks of the vertices, and the chunks that they keep in memory.
-use Rattle.std.specs.Prelude.{◌≡◌, ◌≢◌, ◌≤◌, ◌<◌, ◌⊎◌, ℕ, ◌+◌, ◌*◌, ◌%◌, ◌==◌, nat_lt, cond, List, ◌++◌, length, take, drop, Option, IfSome}
+use Rattle.std.specs.Prelude.{◌≡◌, ◌≤◌, ◌<◌, ℕ, ◌+◌, ◌*◌, ◌%◌, ◌==◌, nat_lt, cond, List, ◌++◌, length, take, drop, Option, IfSome}
 use Rattle.lumos_depot.specs.declared.depot.FileKind.{FileKind}
 use Rattle.lumos_depot.specs.declared.depot.FileKind.TheVariants.{Values, Sums}
 use Rattle.partition.specs.Parts.{Cut, chunk_of, first_vertex, part_length}

@@ -47,7 +47,13 @@ fn finish_range<G: VertexProgram>(
     let first = range.first as usize;
     let past = range.past as usize;
     let values = &before[first..past];
-    finalise(program, range.first, values, &sums[..past - first], &mut after[first..past])
+    finalise(
+        program,
+        range.first,
+        values,
+        &sums[..past - first],
+        &mut after[first..past],
+    )
 }
 
 // Makes the values of a range of vertices after iteration t, of those after iteration t - 1 and of their sums, where both

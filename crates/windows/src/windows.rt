@@ -351,7 +351,14 @@ impl<G: VertexProgram> Windows<G> {
             &self.even,
             &self.odd,
         );
-        feed_window(program, edges, from.first, values, into, &mut self.next_sums);
+        feed_window(
+            program,
+            edges,
+            from.first,
+            values,
+            into,
+            &mut self.next_sums,
+        );
     }
 
     /// Brings the sums of a chunk in Sums into the first window over sums, and makes the windows those of the chunk, which has

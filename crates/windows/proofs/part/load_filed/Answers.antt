@@ -1,11 +1,11 @@
-use Rattle.std.proofs.Common.{◌≡◌, ◌+◌, ◌-◌, ◌≤◌, ◌*◌, ℕ, List, length, take, drop, sym, ap, subst, ◌∙◌, arith}
+use Rattle.std.proofs.Common.{◌≡◌, ◌+◌, ◌-◌, ℕ, length, take, drop, sym, ap, subst, ◌∙◌, arith}
 use Rattle.std.specs.Prelude.{IfSome}
 use Rattle.std.proofs.lemmas.List.{length-take-le, take_at}
 use Rattle.lumos_depot.specs.declared.depot.FileKind.TheVariants.{Values}
 use Rattle.partition.specs.Parts.{chunk_of, first_vertex, part_length}
 use Rattle.partition.specs.declared.records.VertexRange.{VertexRange}
 use Rattle.value_files.specs.Kept.{value_place}
-use Rattle.value_files.specs.Records.{AreRecords, FaultIs, damage_at}
+use Rattle.value_files.specs.Records.{AreRecords}
 use Rattle.windows.proofs.KeptLemmas.{told_same_list}
 use Rattle.windows.proofs.ResultLemmas.{intact_told, on_ok_more}
 use Rattle.windows.proofs.part.load_filed.Goals as goal

@@ -1,4 +1,4 @@
-use Rattle.std.proofs.Common.{◌≡◌, ◌∙◌, sym, ap, take, arith}
+use Rattle.std.proofs.Common.{◌≡◌, ◌∙◌, sym, take}
 use Rattle.lumos_depot.specs.declared.depot.FileKind.TheVariants.{Values}
 use Rattle.partition.specs.Parts.{chunk_of, part_length}
 use Rattle.windows.proofs.KeptLemmas.{kept_filed, shown_high, shown_low}

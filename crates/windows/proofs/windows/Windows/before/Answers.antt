@@ -1,6 +1,5 @@
-use Rattle.std.proofs.Common.{◌≡◌, sym, subst, ◌∙◌, arith, length}
+use Rattle.std.proofs.Common.{arith}
 use Rattle.partition.specs.Parts.{chunk_of}
-use Rattle.windows.specs.Windows.{WindowState, chunk_count, shown_of}
 use Rattle.windows.proofs.PartLemmas.{part_below}
 use Rattle.windows.proofs.windows.Windows.before.Goals as goal
 

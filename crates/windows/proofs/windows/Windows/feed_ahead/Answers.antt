@@ -1,7 +1,7 @@
-use Rattle.std.proofs.Common.{◌≡◌, ◌≤◌, ◌++◌, ℕ, List, length, take, drop, refl, sym, ap, subst, ◌∙◌, arith}
+use Rattle.std.proofs.Common.{◌≡◌, ◌≤◌, ◌++◌, ◌-◌, length, take, drop, refl, sym, ap, subst, ◌∙◌, arith}
 use Rattle.std.specs.Prelude.{slice_index_or}
 use Rattle.std.proofs.lemmas.List.{take_at}
-use Rattle.lumos_law.specs.Sync.{fed_sum, sum_at, IsChunk}
+use Rattle.lumos_law.specs.Sync.{sum_at, IsChunk}
 use Rattle.partition.specs.Parts.{chunk_of, first_vertex, part_length, IsInPart}
 use Rattle.partition.specs.declared.records.VertexRange.{VertexRange}
 use Rattle.windows.specs.Sums.{HasNext, IsSecond}

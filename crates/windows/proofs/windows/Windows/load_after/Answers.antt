@@ -1,7 +1,6 @@
-use Rattle.std.proofs.Common.{◌≡◌, ◌++◌, List, length, take, drop, refl, sym, ap, subst, ◌∙◌, arith}
+use Rattle.std.proofs.Common.{◌≡◌, ◌++◌, length, take, drop, refl, ap, ◌∙◌, arith}
 use Rattle.std.proofs.lemmas.List.{take_at}
-use Rattle.windows.specs.Kept.{Keeps}
-use Rattle.windows.specs.Windows.{WindowState, shown_of}
+use Rattle.windows.specs.Windows.{shown_of}
 use Rattle.windows.proofs.ResultLemmas.{on_ok_more}
 use Rattle.windows.proofs.StayLemmas.{second_shown, seen_by, view_stays}
 use Rattle.windows.proofs.windows.Windows.load_after.Goals as goal

@@ -1,9 +1,7 @@
-use Rattle.std.proofs.Common.{◌≡◌, ◌≤◌, ◌++◌, ◌*◌, ℕ, List, length, take, drop, refl, sym, subst, ◌∙◌, arith}
+use Rattle.std.proofs.Common.{◌≡◌, ◌≤◌, ◌++◌, length, take, drop, refl, sym, subst, arith}
 use Rattle.std.proofs.lemmas.List.{take_at}
 use Rattle.lumos_law.specs.Sync.{sum_at, IsChunk}
 use Rattle.partition.specs.Parts.{chunk_of, first_vertex, part_length}
-use Rattle.windows.specs.Sums.{StoresEarly}
-use Rattle.windows.specs.Windows.{WindowState}
 use Rattle.windows.proofs.PartLemmas.{part_short}
 use Rattle.windows.proofs.ResultLemmas.{on_ok_more}
 use Rattle.windows.proofs.StayLemmas.{early_seen, view_stays}

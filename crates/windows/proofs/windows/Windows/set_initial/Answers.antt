@@ -1,4 +1,4 @@
-use Rattle.std.proofs.Common.{◌≡◌, ◌≢◌, ◌≤◌, ◌++◌, ◌+◌, ◌-◌, ◌*◌, ℕ, true, List, length, take, drop, refl, sym, ap, subst, ◌∙◌, arith}
+use Rattle.std.proofs.Common.{◌≡◌, ◌≢◌, ◌≤◌, ◌++◌, ◌+◌, ◌-◌, ℕ, true, List, length, take, drop, refl, sym, ap, subst, ◌∙◌, arith}
 use Rattle.std.specs.Prelude.{IfOk, IfSome, OnOk, is_some}
 use Rattle.std.specs.List.{list_any, range_with_len}
 use Rattle.std.proofs.lemmas.List.{take_at}
@@ -8,7 +8,6 @@ use Rattle.lumos_depot.proofs.StepLemmas.{told_at, told_more}
 use Rattle.lumos_law.specs.Sync.{IsChunk}
 use Rattle.partition.specs.Parts.{chunk_of, first_vertex, part_length}
 use Rattle.partition.specs.declared.records.VertexRange.{VertexRange}
-use Rattle.value_files.specs.Kept.{value_place}
 use Rattle.windows.specs.Kept.{AreFiled, load_bytes, load_of}
 use Rattle.windows.specs.Sums.{given_values}
 use Rattle.windows.specs.Windows.{WindowState, chunk_count, chunk_first, chunk_in, put_in, shown_of}

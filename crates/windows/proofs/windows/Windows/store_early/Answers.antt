@@ -1,14 +1,14 @@
-use Rattle.std.proofs.Common.{◌≡◌, ◌+◌, ◌-◌, ◌≤◌, ◌*◌, ℕ, List, length, take, refl, sym, ap, subst, ◌∙◌, arith}
+use Rattle.std.proofs.Common.{◌≡◌, ◌+◌, ◌-◌, ◌≤◌, ◌*◌, ℕ, length, take, refl, ap, subst, arith}
 use Rattle.std.proofs.lemmas.List.{length-take}
 use Rattle.std.proofs.lemmas.Nat.{mul-le}
 use Rattle.lumos_depot.specs.Files.{SameOutsideTold}
 use Rattle.lumos_depot.specs.declared.depot.FileKind.TheVariants.{Sums, Values}
 use Rattle.lumos_depot.proofs.StepLemmas.{told_more}
-use Rattle.partition.specs.Parts.{Cut, chunk_of, first_vertex, part_length}
+use Rattle.partition.specs.Parts.{chunk_of, first_vertex, part_length}
 use Rattle.partition.specs.declared.records.VertexRange.{VertexRange}
 use Rattle.value_files.specs.Kept.{sum_place}
 use Rattle.windows.specs.Kept.{StaysButSums}
-use Rattle.windows.specs.Windows.{Coding, WindowState}
+use Rattle.windows.specs.Windows.{WindowState}
 use Rattle.windows.proofs.StayLemmas.{coding, view_stored}
 use Rattle.windows.proofs.windows.Windows.store_early.Goals as goal
 

@@ -34,13 +34,13 @@ fn sum_place<S: Fixed>(range: VertexRange) -> u64
     u64::from(range.first) * S::WIDTH as u64
 }
 
-/// Fills the places with the values after iteration t of a range of the vertices, from their file Values: that has two
-/// records for each vertex, those of even iterations first, and a value of this iteration stands where that of the one
-/// before the last stood. The layout is our own.
+/// Fills the places with the values after iteration t of a range of the vertices, from the file Values. That has two records
+/// for each vertex, first those of even iterations and then those of odd ones, so that a value stands where that of the
+/// iteration before the last stood. The layout is our own.
 ///
-/// The width of a value has to be at least 8, the range has to lie among the vertices, and there has to be a place for
-/// each vertex of it. It needs an attached directory and, where the contents are told, a file of its size. It takes no
-/// memory and changes no file.
+/// The width of a value has to be at least 8, the range has to lie among the vertices, and there has to be a place for each
+/// vertex of it. It needs an attached directory and, where the contents are told, a file of exactly two records for each
+/// vertex. It takes the bytes of the range's records, and never more. It takes no memory and changes no file.
 ///
 /// `Damaged` comes exactly where a record of the range stands for no value: it carries the place of the first one, and the
 /// number in its last eight bytes. `Depot` comes only where the depot's count of faults rose. After both it is left open
@@ -70,10 +70,12 @@ pub fn load_values<V: Fixed + Copy, D: Depot>(
 }
 
 /// Writes the values after iteration t of a range of the vertices into Values, over those of the iteration before the last.
-/// The range, the values and the file are as for `load_values`. Whatever is answered, no record of another vertex or of the
-/// iteration before changes, nor the file's length. It takes no memory.
+/// The range, the values and the file have to be as for `load_values`, and the layout is the one told there. It stores the
+/// bytes of the range's records, and never more. Whatever is answered, no record of another vertex or of the iteration before
+/// changes, nor the file's length. It takes no memory.
 ///
-/// `Depot` comes only where the depot's count of faults rose; `Damaged` never comes.
+/// `Depot` comes only where the depot's count of faults rose, and leaves open what the range's own records hold; `Damaged`
+/// never comes.
 pub fn store_values<V: Fixed + Copy, D: Depot>(
     depot: &mut D,
     vertices: u32,
@@ -104,11 +106,12 @@ pub fn store_values<V: Fixed + Copy, D: Depot>(
     }
 }
 
-/// Fills the places with the sums of a range of the vertices, from their file Sums, which has a record for each of so many
-/// vertices. The layout is our own.
+/// Fills the places with the sums of a range of the vertices, from the file Sums, which has one record for each vertex. The
+/// layout is our own.
 ///
-/// The width of a sum has to be at least 8, the range has to lie among the vertices of the file where that is told, and
-/// there has to be a place for each vertex of it. It needs an attached directory. It takes no memory and changes no file.
+/// The width of a sum has to be at least 8, and there has to be a place for each vertex of the range. It needs an attached
+/// directory and, where the contents are told, a file that has the records of the range. It takes the bytes of these records,
+/// and never more. It takes no memory and changes no file.
 ///
 /// `Damaged` comes exactly where a record of the range stands for no sum: it carries the place of the first one, and the
 /// number in its last eight bytes. `Depot` comes only where the depot's count of faults rose. After both it is left open
@@ -134,10 +137,12 @@ pub fn load_sums<S: Fixed + Copy, D: Depot>(
     read_values(depot, FileKind::Sums, from, out)
 }
 
-/// Writes the sums of a range of the vertices into Sums. The range, the sums and the file are as for `load_sums`. Whatever
-/// is answered, no record of another vertex changes, nor the file's length. It takes no memory.
+/// Writes the sums of a range of the vertices into Sums, over those that stood there. The range, the sums and the file have to
+/// be as for `load_sums`, and the layout is the one told there. It stores the bytes of the range's records, and never more.
+/// Whatever is answered, no record of another vertex changes, nor the file's length. It takes no memory.
 ///
-/// `Depot` comes only where the depot's count of faults rose; `Damaged` never comes.
+/// `Depot` comes only where the depot's count of faults rose, and leaves open what the range's own records hold; `Damaged`
+/// never comes.
 pub fn store_sums<S: Fixed + Copy, D: Depot>(
     depot: &mut D,
     range: VertexRange,

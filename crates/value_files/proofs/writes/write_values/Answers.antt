@@ -21,7 +21,7 @@ write_piece-requires-clause-inside g c =
     let place : c.WIDTH.result * done ≡ w * done = ap (λ (k : ℕ). k * done) c.WIDTH.ensures in
     let cut = times_add w done m in
     let within = times_within w (done + m) (length items) (omega (arith, size)) in
-    told_more (g.D.Depot.holds c.loop-done.depot file) (λ held. c.args.place + w * length items ≤ length held) (λ held. c.args.place + c.WIDTH.result * done + w * m ≤ length held)
+    told_more (g.D.Depot.holds c.loop-done.depot file) (λ held. c.args.place + w * length items ≤ length held) _
     (λ held inside. omega (arith, inside, place, cut, within))
     (told_outside_long c.args.place (w * length items) (g.D.Depot.holds c.args.depot.now file) (g.D.Depot.holds c.loop-done.depot file) (λ k. c.args.place + w * length items ≤ k) c.loop-done.invariant.outside c.requires.inside)
 

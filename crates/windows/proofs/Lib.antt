@@ -1,0 +1,11 @@
+pub mod BudgetLemmas
+pub mod FeedLemmas
+pub mod FrameLemmas
+pub mod InitialLemmas
+pub mod KeptLemmas
+pub mod ListLemmas
+pub mod LoadLemmas
+pub mod MadeLemmas
+pub mod PartLemmas
+pub mod ResultLemmas
+pub mod StayLemmas

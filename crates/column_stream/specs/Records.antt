@@ -1,5 +1,5 @@
 -- The records of a block, twelve bytes each, and the words in them that name vertices.
-use Rattle.std.specs.Prelude.{◌≡◌, ◌<◌, ◌≤◌, ◌⊎◌, ⊤, ℕ, zero, suc, ◌+◌, ◌-◌, ◌*◌, Bool, not, nat_lt, ◌||◌, List, [], ◌∷◌, drop, filter, Option, None, Some, Result, Ok, Err}
+use Rattle.std.specs.Prelude.{◌≡◌, ◌<◌, ◌≤◌, ◌⊎◌, ⊤, ℕ, zero, suc, ◌+◌, ◌-◌, ◌*◌, Bool, not, nat_lt, ◌||◌, List, [], ◌∷◌, drop, filter, Option, None, Some}
 use Rattle.lumos_base.specs.Records.{edge_from}
 use Rattle.lumos_base.specs.declared.records.Edge.{Edge}
 use Rattle.lumos_depot.specs.declared.depot.FileKind.{FileKind}
@@ -68,9 +68,3 @@ pub record IsStray (ends : Ends) (start n place found : ℕ) : Type 0 where
 abbrev pub IsDamage : FileKind → Ends → ℕ → ℕ → FileFault → Type 0
 IsDamage file ends start n Depot = ⊤
 IsDamage file ends start n (Damaged other place found) = (other ≡ file) × IsStray ends start n place found
-
--- a call answers the fault that there is, if there is one, or that the depot failed
-abbrev pub FaultIs : {T : Type 0} → Result T FileFault → Option FileFault → Type 0
-FaultIs (Ok x) fault = fault ≡ None
-FaultIs (Err Depot) fault = ⊤
-FaultIs (Err (Damaged file place found)) fault = fault ≡ Some (Damaged file place found)

@@ -7,4 +7,4 @@ mod reads;
 mod records;
 
 pub use cursor::BlockCursor;
-pub use laws::grid_blocks_are_streamed;
+pub use laws::{grid_blocks_are_streamed, pieces_are_the_block};

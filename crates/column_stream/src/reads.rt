@@ -2,7 +2,8 @@
 ghost use Rattle.std.specs.Prelude.{◌≡◌, ◌≤◌, ◌<◌, ◌+◌, ◌*◌, ◌^◌, ℕ, All, Err, length, IfErr, IfSome, IsSome, OnOk};
 ghost use Rattle.lumos_depot.specs.Causes.{Rose};
 ghost use Rattle.lumos_depot.specs.Steps.{Reads, RoseBy};
-ghost use Rattle.column_stream.specs.Records.{FaultIs, Fits, IsDamage, edges_at, first_fault};
+ghost use Rattle.value_files.specs.Records.{FaultIs};
+ghost use Rattle.column_stream.specs.Records.{Fits, IsDamage, edges_at, first_fault};
 
 use crate::records::{Ends, get_records};
 use lumos_base::Edge;
@@ -10,10 +11,10 @@ use lumos_depot::{Depot, FileKind};
 use value_files::FileFault;
 
 // How many records are read at a time.
-const PIECE: usize = 256;
+pub(crate) const PIECE: usize = 256;
 
 // Reads the records that stand at a place of a file. The bytes are room for theirs.
-fn read_piece<D: Depot>(
+pub(crate) fn read_piece<D: Depot>(
     depot: &mut D,
     file: FileKind,
     ends: Ends,
@@ -41,38 +42,4 @@ fn read_piece<D: Depot>(
         },
         Err(fault) => Err(FileFault::from(fault)),
     }
-}
-
-// Reads as many records as there are places, from a place of a file on, a fixed number of them at a time.
-pub(crate) fn read_records<D: Depot>(
-    depot: &mut D,
-    file: FileKind,
-    ends: Ends,
-    place: u64,
-    out: &mut [Edge],
-) -> Result<(), FileFault>
-    requires attached { IsSome (D.attached depot.old) }
-    requires far { place + 12 * length out.old < 2 ^ 64 }
-    requires inside { IfSome (D.holds depot.old file) (λ held. place + 12 * length out.old ≤ length held) }
-    ensures edges { OnOk result (IfSome (D.holds depot.old file) (λ held. out.new ≡ edges_at place (length out.old) held)) }
-    ensures fault { IfSome (D.holds depot.old file) (λ held. FaultIs result (first_fault file ends place (edges_at place (length out.old) held))) }
-    ensures fits { OnOk result (All (Fits ends) out.new) }
-    ensures damaged { IfErr result (IsDamage file ends place (length out.old)) }
-    ensures taken { OnOk result (RoseBy (D.taken depot.old file) (D.taken depot.new file) (12 * length out.old)) }
-    ensures most { D.taken depot.new file ≤ D.taken depot.old file + 12 * length out.old }
-    ensures reads { Reads D.holds D.taken D.stored D.faults D.attached file depot.old depot.new }
-    ensures cause { result ≡ Err FileFault.Depot → Rose (D.faults depot.old) (D.faults depot.new) }
-{
-    let mut bytes = [0; 12 * PIECE];
-    let mut done = 0;
-    while done < out.len() {
-        let past = out.len().min(done + PIECE);
-        let from = place + 12 * done as u64;
-        let room = &mut bytes[..12 * (past - done)];
-        match read_piece(depot, file, ends, from, room, &mut out[done..past]) {
-            Ok(()) => done = past,
-            Err(fault) => return Err(fault),
-        }
-    }
-    Ok(())
 }

@@ -32,3 +32,5 @@ mod rows;
 mod schedules;
 #[cfg(test)]
 mod walks;
+#[cfg(test)]
+mod windowing;

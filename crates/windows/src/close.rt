@@ -132,7 +132,9 @@ pub(crate) fn close_in_file<G: VertexProgram, D: Depot>(
     ensures broken { IfErr result (ShowsBroken G.Value.value_of G.Value.WIDTH FileKind.Values
         (value_place G.Value.WIDTH parts.vertices (t - 1) (first_vertex parts.vertices (chunk_of parts) part)) (part_length parts.vertices (chunk_of parts) part)) }
     ensures taken { OnOk result (RoseBy (D.taken depot.old FileKind.Values) (D.taken depot.new FileKind.Values) (G.Value.WIDTH * part_length parts.vertices (chunk_of parts) part)) }
+    ensures taken_most { D.taken depot.new FileKind.Values ≤ D.taken depot.old FileKind.Values + G.Value.WIDTH * part_length parts.vertices (chunk_of parts) part }
     ensures stored { IfOk result (λ end. end.over ≡ None → RoseBy (D.stored depot.old FileKind.Values) (D.stored depot.new FileKind.Values) (G.Value.WIDTH * part_length parts.vertices (chunk_of parts) part)) }
+    ensures stored_most { D.stored depot.new FileKind.Values ≤ D.stored depot.old FileKind.Values + G.Value.WIDTH * part_length parts.vertices (chunk_of parts) part }
     ensures moves { Moves D.holds D.taken D.stored D.faults D.attached FileKind.Values FileKind.Values depot.old depot.new }
     ensures cause { result ≡ Err FileFault.Depot → Rose (D.faults depot.old) (D.faults depot.new) }
 {

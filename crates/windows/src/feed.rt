@@ -1,5 +1,5 @@
 // Edges fed from one window into another, and early sums brought into one.
-ghost use Rattle.std.specs.Prelude.{◌≡◌, ◌≤◌, ◌<◌, ◌-◌, ◌*◌, ℕ, List, All, Err, length, take, IfErr, IfSome, IsSome, OnOk};
+ghost use Rattle.std.specs.Prelude.{◌≡◌, ◌≤◌, ◌<◌, ◌+◌, ◌-◌, ◌*◌, ℕ, List, All, Err, length, take, IfErr, IfSome, IsSome, OnOk};
 ghost use Rattle.lumos_depot.specs.Causes.{Rose};
 ghost use Rattle.lumos_depot.specs.declared.depot.FileKind.{FileKind};
 ghost use Rattle.lumos_depot.specs.Steps.{Reads, RoseBy};
@@ -58,6 +58,7 @@ pub(crate) fn load_early_part<S: Fixed + Copy, D: Depot>(
     ensures broken { IfErr result (ShowsBroken S.value_of S.WIDTH FileKind.Sums
         (sum_place S.WIDTH (first_vertex parts.vertices (chunk_of parts) part)) (part_length parts.vertices (chunk_of parts) part)) }
     ensures taken { OnOk result (RoseBy (D.taken depot.old FileKind.Sums) (D.taken depot.new FileKind.Sums) (S.WIDTH * part_length parts.vertices (chunk_of parts) part)) }
+    ensures taken_most { D.taken depot.new FileKind.Sums ≤ D.taken depot.old FileKind.Sums + S.WIDTH * part_length parts.vertices (chunk_of parts) part }
     ensures reads { Reads D.holds D.taken D.stored D.faults D.attached FileKind.Sums depot.old depot.new }
     ensures cause { result ≡ Err FileFault.Depot → Rose (D.faults depot.old) (D.faults depot.new) }
 {

@@ -58,6 +58,7 @@ pub(crate) fn read_initial<G: VertexProgram, D: Depot>(
     requires inside { IfSome (D.holds depot.old FileKind.Info) (λ file. 12 * (first + length values.old) ≤ length file) }
     ensures told { OnOk result (IfSome (D.holds depot.old FileKind.Info) (λ file. IsChunk (given_values (G.model program.now) file) first values.new)) }
     ensures taken { OnOk result (RoseBy (D.taken depot.old FileKind.Info) (D.taken depot.new FileKind.Info) (12 * length values.old)) }
+    ensures taken_most { D.taken depot.new FileKind.Info ≤ D.taken depot.old FileKind.Info + 12 * length values.old }
     ensures reads { Reads D.holds D.taken D.stored D.faults D.attached FileKind.Info depot.old depot.new }
     ensures cause { OnErr result (Rose (D.faults depot.old) (D.faults depot.new)) }
 {
@@ -104,6 +105,7 @@ fn initial_values<G: VertexProgram, D: Depot>(
     ensures hot { IfOk result (λ hot. IfSome (D.holds depot.old FileKind.Info) (λ file. hot ≡ list_any (λ v. (G.model program.now).contributes (given_values (G.model program.now) file v))
         (range_with_len first (length values.old)))) }
     ensures taken { OnOk result (RoseBy (D.taken depot.old FileKind.Info) (D.taken depot.new FileKind.Info) (12 * length values.old)) }
+    ensures taken_most { D.taken depot.new FileKind.Info ≤ D.taken depot.old FileKind.Info + 12 * length values.old }
     ensures reads { Reads D.holds D.taken D.stored D.faults D.attached FileKind.Info depot.old depot.new }
     ensures intact { IfErr result (λ fault. fault ≡ FileFault.Depot) }
     ensures cause { result ≡ Err FileFault.Depot → Rose (D.faults depot.old) (D.faults depot.new) }
@@ -132,6 +134,7 @@ pub(crate) fn initial_in_memory<G: VertexProgram, D: Depot>(
         (range_with_len range.first (range.past - range.first)))) }
     ensures rest { even.new ≡ put_in range.first (take (range.past - range.first) (drop range.first even.new)) even.old }
     ensures taken { OnOk result (RoseBy (D.taken depot.old FileKind.Info) (D.taken depot.new FileKind.Info) (12 * (range.past - range.first))) }
+    ensures taken_most { D.taken depot.new FileKind.Info ≤ D.taken depot.old FileKind.Info + 12 * (range.past - range.first) }
     ensures reads { Reads D.holds D.taken D.stored D.faults D.attached FileKind.Info depot.old depot.new }
     ensures intact { IfErr result (λ fault. fault ≡ FileFault.Depot) }
     ensures cause { result ≡ Err FileFault.Depot → Rose (D.faults depot.old) (D.faults depot.new) }
@@ -164,7 +167,9 @@ pub(crate) fn initial_in_file<G: VertexProgram, D: Depot>(
     ensures outside { SameOutsideTold (value_place G.Value.WIDTH parts.vertices 0 (first_vertex parts.vertices (chunk_of parts) part))
         (G.Value.WIDTH * part_length parts.vertices (chunk_of parts) part) (D.holds depot.old FileKind.Values) (D.holds depot.new FileKind.Values) }
     ensures taken { OnOk result (RoseBy (D.taken depot.old FileKind.Info) (D.taken depot.new FileKind.Info) (12 * part_length parts.vertices (chunk_of parts) part)) }
+    ensures taken_most { D.taken depot.new FileKind.Info ≤ D.taken depot.old FileKind.Info + 12 * part_length parts.vertices (chunk_of parts) part }
     ensures stored { OnOk result (RoseBy (D.stored depot.old FileKind.Values) (D.stored depot.new FileKind.Values) (G.Value.WIDTH * part_length parts.vertices (chunk_of parts) part)) }
+    ensures stored_most { D.stored depot.new FileKind.Values ≤ D.stored depot.old FileKind.Values + G.Value.WIDTH * part_length parts.vertices (chunk_of parts) part }
     ensures moves { Moves D.holds D.taken D.stored D.faults D.attached FileKind.Info FileKind.Values depot.old depot.new }
     ensures intact { IfErr result (λ fault. fault ≡ FileFault.Depot) }
     ensures cause { result ≡ Err FileFault.Depot → Rose (D.faults depot.old) (D.faults depot.new) }

@@ -66,6 +66,7 @@ pub(crate) fn load_filed<V: Fixed + Copy, D: Depot>(
     ensures broken { IfErr result (ShowsBroken V.value_of V.WIDTH FileKind.Values
         (value_place V.WIDTH parts.vertices t (first_vertex parts.vertices (chunk_of parts) part)) (part_length parts.vertices (chunk_of parts) part)) }
     ensures taken { OnOk result (RoseBy (D.taken depot.old FileKind.Values) (D.taken depot.new FileKind.Values) (V.WIDTH * part_length parts.vertices (chunk_of parts) part)) }
+    ensures taken_most { D.taken depot.new FileKind.Values ≤ D.taken depot.old FileKind.Values + V.WIDTH * part_length parts.vertices (chunk_of parts) part }
     ensures reads { Reads D.holds D.taken D.stored D.faults D.attached FileKind.Values depot.old depot.new }
     ensures cause { result ≡ Err FileFault.Depot → Rose (D.faults depot.old) (D.faults depot.new) }
 {
@@ -100,6 +101,7 @@ pub(crate) fn load_part<V: Fixed + Copy, D: Depot>(
     ensures untouched { part < pinned → depot.new ≡ depot.old }
     ensures in_memory { part < pinned → IsOk result }
     ensures taken { OnOk result (RoseBy (D.taken depot.old FileKind.Values) (D.taken depot.new FileKind.Values) (load_of parts V.WIDTH pinned part)) }
+    ensures taken_most { D.taken depot.new FileKind.Values ≤ D.taken depot.old FileKind.Values + load_of parts V.WIDTH pinned part }
     ensures reads { Reads D.holds D.taken D.stored D.faults D.attached FileKind.Values depot.old depot.new }
     ensures cause { result ≡ Err FileFault.Depot → Rose (D.faults depot.old) (D.faults depot.new) }
 {
@@ -126,6 +128,7 @@ pub(crate) fn store_filed<V: Fixed + Copy, D: Depot>(
     ensures outside { SameOutsideTold (value_place V.WIDTH parts.vertices t (first_vertex parts.vertices (chunk_of parts) part))
         (V.WIDTH * part_length parts.vertices (chunk_of parts) part) (D.holds depot.old FileKind.Values) (D.holds depot.new FileKind.Values) }
     ensures stored { OnOk result (RoseBy (D.stored depot.old FileKind.Values) (D.stored depot.new FileKind.Values) (V.WIDTH * part_length parts.vertices (chunk_of parts) part)) }
+    ensures stored_most { D.stored depot.new FileKind.Values ≤ D.stored depot.old FileKind.Values + V.WIDTH * part_length parts.vertices (chunk_of parts) part }
     ensures stores { Stores D.holds D.taken D.stored D.faults D.attached FileKind.Values depot.old depot.new }
     ensures intact { IfErr result (λ fault. fault ≡ FileFault.Depot) }
     ensures cause { result ≡ Err FileFault.Depot → Rose (D.faults depot.old) (D.faults depot.new) }

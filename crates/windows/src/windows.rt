@@ -251,6 +251,7 @@ impl<G: VertexProgram> Windows<G> {
         ensures untouched { part < self.old.pinned → depot.new ≡ depot.old }
         ensures in_memory { part < self.old.pinned → IsOk result }
         ensures taken { OnOk result (RoseBy (D.taken depot.old FileKind.Values) (D.taken depot.new FileKind.Values) (load_bytes ⟦<G as Coded>⟧.coding self.old part)) }
+        ensures taken_most { D.taken depot.new FileKind.Values ≤ D.taken depot.old FileKind.Values + load_bytes ⟦<G as Coded>⟧.coding self.old part }
         ensures reads { Reads D.holds D.taken D.stored D.faults D.attached FileKind.Values depot.old depot.new }
         ensures cause { result ≡ Err FileFault.Depot → Rose (D.faults depot.old) (D.faults depot.new) }
     {
@@ -285,6 +286,7 @@ impl<G: VertexProgram> Windows<G> {
         ensures untouched { part < self.old.pinned → depot.new ≡ depot.old }
         ensures in_memory { part < self.old.pinned → IsOk result }
         ensures taken { OnOk result (RoseBy (D.taken depot.old FileKind.Values) (D.taken depot.new FileKind.Values) (load_bytes ⟦<G as Coded>⟧.coding self.old part)) }
+        ensures taken_most { D.taken depot.new FileKind.Values ≤ D.taken depot.old FileKind.Values + load_bytes ⟦<G as Coded>⟧.coding self.old part }
         ensures reads { Reads D.holds D.taken D.stored D.faults D.attached FileKind.Values depot.old depot.new }
         ensures cause { result ≡ Err FileFault.Depot → Rose (D.faults depot.old) (D.faults depot.new) }
     {
@@ -379,6 +381,7 @@ impl<G: VertexProgram> Windows<G> {
         ensures fault { IfSome (D.holds depot.old FileKind.Sums) (λ file. FaultIs result (sums_damage ⟦<G as Coded>⟧.coding self.old part file)) }
         ensures broken { IfErr result (BrokenSums ⟦<G as Coded>⟧.coding self.old part) }
         ensures taken { OnOk result (RoseBy (D.taken depot.old FileKind.Sums) (D.taken depot.new FileKind.Sums) (G.Sum.WIDTH * chunk_count self.old part)) }
+        ensures taken_most { D.taken depot.new FileKind.Sums ≤ D.taken depot.old FileKind.Sums + G.Sum.WIDTH * chunk_count self.old part }
         ensures reads { Reads D.holds D.taken D.stored D.faults D.attached FileKind.Sums depot.old depot.new }
         ensures cause { result ≡ Err FileFault.Depot → Rose (D.faults depot.old) (D.faults depot.new) }
     {
@@ -401,6 +404,7 @@ impl<G: VertexProgram> Windows<G> {
         ensures stays { StaysButSums ⟦<G as Coded>⟧.coding part self.old (D.holds depot.old) self.new (D.holds depot.new) }
         ensures sized { IsSized ⟦<G as Coded>⟧.coding self.new (D.holds depot.new) }
         ensures stored { OnOk result (RoseBy (D.stored depot.old FileKind.Sums) (D.stored depot.new FileKind.Sums) (G.Sum.WIDTH * chunk_count self.old part)) }
+        ensures stored_most { D.stored depot.new FileKind.Sums ≤ D.stored depot.old FileKind.Sums + G.Sum.WIDTH * chunk_count self.old part }
         ensures stores { Stores D.holds D.taken D.stored D.faults D.attached FileKind.Sums depot.old depot.new }
         ensures intact { IfErr result (λ fault. fault ≡ FileFault.Depot) }
         ensures cause { result ≡ Err FileFault.Depot → Rose (D.faults depot.old) (D.faults depot.new) }
@@ -439,7 +443,9 @@ impl<G: VertexProgram> Windows<G> {
         ensures stays { StaysBut ⟦<G as Coded>⟧.coding 0 part self.old (D.holds depot.old) self.new (D.holds depot.new) }
         ensures sized { IsSized ⟦<G as Coded>⟧.coding self.new (D.holds depot.new) }
         ensures taken { OnOk result (RoseBy (D.taken depot.old FileKind.Info) (D.taken depot.new FileKind.Info) (12 * chunk_count self.old part)) }
+        ensures taken_most { D.taken depot.new FileKind.Info ≤ D.taken depot.old FileKind.Info + 12 * chunk_count self.old part }
         ensures stored { OnOk result (RoseBy (D.stored depot.old FileKind.Values) (D.stored depot.new FileKind.Values) (load_bytes ⟦<G as Coded>⟧.coding self.old part)) }
+        ensures stored_most { D.stored depot.new FileKind.Values ≤ D.stored depot.old FileKind.Values + load_bytes ⟦<G as Coded>⟧.coding self.old part }
         ensures moves { Moves D.holds D.taken D.stored D.faults D.attached FileKind.Info FileKind.Values depot.old depot.new }
         ensures intact { IfErr result (λ fault. fault ≡ FileFault.Depot) }
         ensures cause { result ≡ Err FileFault.Depot → Rose (D.faults depot.old) (D.faults depot.new) }
@@ -492,7 +498,9 @@ impl<G: VertexProgram> Windows<G> {
         ensures untouched { part < self.old.pinned → depot.new ≡ depot.old }
         ensures in_memory { part < self.old.pinned → IsOk result }
         ensures taken { OnOk result (RoseBy (D.taken depot.old FileKind.Values) (D.taken depot.new FileKind.Values) (load_bytes ⟦<G as Coded>⟧.coding self.old part)) }
+        ensures taken_most { D.taken depot.new FileKind.Values ≤ D.taken depot.old FileKind.Values + load_bytes ⟦<G as Coded>⟧.coding self.old part }
         ensures stored { IfOk result (λ end. end.over ≡ None → RoseBy (D.stored depot.old FileKind.Values) (D.stored depot.new FileKind.Values) (load_bytes ⟦<G as Coded>⟧.coding self.old part)) }
+        ensures stored_most { D.stored depot.new FileKind.Values ≤ D.stored depot.old FileKind.Values + load_bytes ⟦<G as Coded>⟧.coding self.old part }
         ensures moves { Moves D.holds D.taken D.stored D.faults D.attached FileKind.Values FileKind.Values depot.old depot.new }
         ensures cause { result ≡ Err FileFault.Depot → Rose (D.faults depot.old) (D.faults depot.new) }
     {

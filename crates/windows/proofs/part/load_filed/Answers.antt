@@ -1,11 +1,11 @@
-use Rattle.std.proofs.Common.{◌≡◌, ◌+◌, ◌-◌, ℕ, length, take, drop, sym, ap, subst, ◌∙◌, arith}
+use Rattle.std.proofs.Common.{◌≡◌, ◌+◌, ◌-◌, ℕ, length, take, drop, sym, subst, ◌∙◌, arith}
 use Rattle.std.specs.Prelude.{IfSome}
 use Rattle.std.proofs.lemmas.List.{length-take-le, take_at}
 use Rattle.lumos_depot.specs.declared.depot.FileKind.TheVariants.{Values}
 use Rattle.partition.specs.Parts.{chunk_of, first_vertex, part_length}
-use Rattle.partition.specs.declared.records.VertexRange.{VertexRange}
 use Rattle.value_files.specs.Kept.{value_place}
 use Rattle.value_files.specs.Records.{AreRecords}
+use Rattle.windows.proofs.PartLemmas.{range_first, range_past}
 use Rattle.windows.proofs.KeptLemmas.{told_same_list}
 use Rattle.windows.proofs.ResultLemmas.{intact_told, on_ok_more}
 use Rattle.windows.proofs.part.load_filed.Goals as goal
@@ -17,8 +17,8 @@ returns-clause-values g c xs filed =
     let told = g.D.Depot.holds c.args.depot.now Values in
     let first = c.range_of-range.result.first in
     let past = c.range_of-range.result.past in
-    let first_is : first ≡ first_vertex cut.vertices (chunk_of cut) c.args.part = ap (λ (r : VertexRange). r.first) c.range_of-range.ensures.value in
-    let past_is : past ≡ first_vertex cut.vertices (chunk_of cut) (c.args.part + 1) = ap (λ (r : VertexRange). r.past) c.range_of-range.ensures.value in
+    let first_is : first ≡ first_vertex cut.vertices (chunk_of cut) c.args.part = range_first c.range_of-range.result cut.vertices (chunk_of cut) c.args.part c.range_of-range.ensures.value in
+    let past_is : past ≡ first_vertex cut.vertices (chunk_of cut) (c.args.part + 1) = range_past c.range_of-range.result cut.vertices (chunk_of cut) c.args.part c.range_of-range.ensures.value in
     let n_is : c.vertices.result ≡ cut.vertices = c.vertices.ensures.value in
     let new = c.load_values.new.out in
     let size : past - first ≡ part_length cut.vertices (chunk_of cut) c.args.part = omega (arith, first_is, past_is) in
@@ -36,8 +36,8 @@ returns-clause-intact g c xs filed =
     let told = g.D.Depot.holds c.args.depot.now Values in
     let first = c.range_of-range.result.first in
     let past = c.range_of-range.result.past in
-    let first_is : first ≡ first_vertex cut.vertices (chunk_of cut) c.args.part = ap (λ (r : VertexRange). r.first) c.range_of-range.ensures.value in
-    let past_is : past ≡ first_vertex cut.vertices (chunk_of cut) (c.args.part + 1) = ap (λ (r : VertexRange). r.past) c.range_of-range.ensures.value in
+    let first_is : first ≡ first_vertex cut.vertices (chunk_of cut) c.args.part = range_first c.range_of-range.result cut.vertices (chunk_of cut) c.args.part c.range_of-range.ensures.value in
+    let past_is : past ≡ first_vertex cut.vertices (chunk_of cut) (c.args.part + 1) = range_past c.range_of-range.result cut.vertices (chunk_of cut) c.args.part c.range_of-range.ensures.value in
     let n_is : c.vertices.result ≡ cut.vertices = c.vertices.ensures.value in
     let size : past - first ≡ part_length cut.vertices (chunk_of cut) c.args.part = omega (arith, first_is, past_is) in
     let long : length (take (past - first) c.args.out.now) ≡ part_length cut.vertices (chunk_of cut) c.args.part = length-take-le (past - first) c.args.out.now (omega (arith, size, c.requires.out_fits)) ∙ size in

@@ -11,7 +11,7 @@ use Rattle.windows.specs.Kept.{AreFiled}
 use Rattle.windows.specs.Windows.{WindowState, chunk_count, chunk_first, chunk_in, put_in, shown_of, turn_list}
 use Rattle.windows.proofs.KeptLemmas.{chunk_long, kept_filed, shown_high, told_is_some, turn_long}
 use Rattle.windows.proofs.MadeLemmas.{before_filed, before_stays, closed_in_memory, file_keeps, if_ok_both, kept_first, memory_keeps}
-use Rattle.windows.proofs.PartLemmas.{part_below, part_ends}
+use Rattle.windows.proofs.PartLemmas.{part_below, part_ends, range_past}
 use Rattle.windows.proofs.ResultLemmas.{if_ok_more, on_ok_more}
 use Rattle.windows.proofs.StayLemmas.{first_shown, keeps_seen, sums_seen, view_filed, view_sized, view_sized_filed, view_written}
 use Rattle.windows.proofs.windows.Windows.close.Goals as goal
@@ -19,13 +19,13 @@ use Rattle.windows.proofs.windows.Windows.close.Goals as goal
 pub close_in_memory-requires-clause-even_fits : goal.close_in_memory-requires-clause-even_fits
 close_in_memory-requires-clause-even_fits g c =
     let cut = c.self.inside.parts in
-    let past : c.range_of-range.result.past ≡ first_vertex cut.vertices (chunk_of cut) (c.args.part + 1) = ap (λ (r : VertexRange). r.past) c.range_of-range.ensures.value in
+    let past : c.range_of-range.result.past ≡ first_vertex cut.vertices (chunk_of cut) (c.args.part + 1) = range_past c.range_of-range.result cut.vertices (chunk_of cut) c.args.part c.range_of-range.ensures.value in
     omega (arith, past, part_below cut.vertices (chunk_of cut) c.args.part c.self.inside.pinned c.if-part-self.true, c.deref_mut.ensures.len, c.self.invariant.even_fits)
 
 pub close_in_memory-requires-clause-odd_fits : goal.close_in_memory-requires-clause-odd_fits
 close_in_memory-requires-clause-odd_fits g c =
     let cut = c.self.inside.parts in
-    let past : c.range_of-range.result.past ≡ first_vertex cut.vertices (chunk_of cut) (c.args.part + 1) = ap (λ (r : VertexRange). r.past) c.range_of-range.ensures.value in
+    let past : c.range_of-range.result.past ≡ first_vertex cut.vertices (chunk_of cut) (c.args.part + 1) = range_past c.range_of-range.result cut.vertices (chunk_of cut) c.args.part c.range_of-range.ensures.value in
     omega (arith, past, part_below cut.vertices (chunk_of cut) c.args.part c.self.inside.pinned c.if-part-self.true, c.deref_mut-then-part-self.ensures.len, c.self.invariant.odd_fits)
 
 pub returns-then-part-self-clause-end : goal.returns-then-part-self-clause-end

@@ -3,11 +3,10 @@ use Rattle.std.specs.Prelude.{slice_index_or}
 use Rattle.std.proofs.lemmas.List.{take_at}
 use Rattle.lumos_law.specs.Sync.{sum_at, IsChunk}
 use Rattle.partition.specs.Parts.{chunk_of, first_vertex, part_length, IsInPart}
-use Rattle.partition.specs.declared.records.VertexRange.{VertexRange}
 use Rattle.windows.specs.Sums.{HasSums, IsFirst}
 use Rattle.windows.specs.Windows.{WindowState, shown_of}
 use Rattle.windows.proofs.FeedLemmas.{fed_on}
-use Rattle.windows.proofs.PartLemmas.{part_below, part_short, range_long, within_range}
+use Rattle.windows.proofs.PartLemmas.{part_below, part_short, range_first, range_long, within_range}
 use Rattle.windows.proofs.StayLemmas.{view_stays}
 use Rattle.windows.proofs.windows.Windows.feed_now.Goals as goal
 
@@ -55,8 +54,8 @@ returns-clause-fed g c i j state before shown has =
     let whole : take fields.sums.len (new ++ drop (length new) fields.sums.items) ≡ new = take_at new _ _ size in
     let values_are : values ≡ shown_of cut fields.pinned fields.first_part fields.first_turn fields.first.items fields.even.items fields.odd.items =
     c.shown-values.ensures.value ∙ (λ m. shown_of cut fields.pinned fields.first_part fields.first_turn (c.deref.ensures.value m) (c.deref-2.ensures.value m) (c.deref-3.ensures.value m)) in
-    let row : from.first ≡ first_vertex n k i = ap (λ (r : VertexRange). r.first) c.range_of-from.ensures.value ∙ ap (first_vertex n k) shows.part in
-    let column : into.first ≡ first_vertex n k j = ap (λ (r : VertexRange). r.first) c.range_of-into.ensures.value ∙ ap (first_vertex n k) sums.part in
+    let row : from.first ≡ first_vertex n k i = range_first from n k fields.first_part c.range_of-from.ensures.value ∙ ap (first_vertex n k) shows.part in
+    let column : into.first ≡ first_vertex n k j = range_first into n k fields.sums_part c.range_of-into.ensures.value ∙ ap (first_vertex n k) sums.part in
     let count : into.past - into.first ≡ part_length n k j = range_long into n k fields.sums_part c.range_of-into.ensures.value ∙ ap (part_length n k) sums.part in
     record {
       part = sums.part;

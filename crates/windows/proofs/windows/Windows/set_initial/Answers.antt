@@ -13,7 +13,7 @@ use Rattle.windows.specs.Sums.{given_values}
 use Rattle.windows.specs.Windows.{WindowState, chunk_count, chunk_first, chunk_in, put_in, shown_of}
 use Rattle.windows.proofs.KeptLemmas.{chunk_long}
 use Rattle.windows.proofs.MadeLemmas.{file_keeps, load_none, memory_first, memory_keeps, on_ok_always, on_ok_both, rose_none, shown_beside, told_if_ok, told_on_ok, window_first}
-use Rattle.windows.proofs.PartLemmas.{part_below, part_ends, part_short}
+use Rattle.windows.proofs.PartLemmas.{part_below, part_ends, part_short, range_past}
 use Rattle.windows.proofs.ResultLemmas.{on_ok_more}
 use Rattle.windows.proofs.StayLemmas.{coding, view_filed, view_sized, view_sized_filed, view_written}
 use Rattle.windows.proofs.windows.Windows.set_initial.Goals as goal
@@ -21,7 +21,7 @@ use Rattle.windows.proofs.windows.Windows.set_initial.Goals as goal
 pub initial_in_memory-requires-clause-even_fits : goal.initial_in_memory-requires-clause-even_fits
 initial_in_memory-requires-clause-even_fits g c =
     let cut = c.self.inside.parts in
-    let past : c.range_of-range.result.past ≡ first_vertex cut.vertices (chunk_of cut) (c.args.part + 1) = ap (λ (r : VertexRange). r.past) c.range_of-range.ensures.value in
+    let past : c.range_of-range.result.past ≡ first_vertex cut.vertices (chunk_of cut) (c.args.part + 1) = range_past c.range_of-range.result cut.vertices (chunk_of cut) c.args.part c.range_of-range.ensures.value in
     omega (arith, past, part_below cut.vertices (chunk_of cut) c.args.part c.self.inside.pinned c.if-part-self.true, c.deref_mut.ensures.len, c.self.invariant.even_fits)
 
 pub returns-then-part-self-clause-kept : goal.returns-then-part-self-clause-kept

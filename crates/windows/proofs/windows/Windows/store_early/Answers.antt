@@ -5,10 +5,10 @@ use Rattle.lumos_depot.specs.Files.{SameOutsideTold}
 use Rattle.lumos_depot.specs.declared.depot.FileKind.TheVariants.{Sums, Values}
 use Rattle.lumos_depot.proofs.StepLemmas.{told_more}
 use Rattle.partition.specs.Parts.{chunk_of, first_vertex, part_length}
-use Rattle.partition.specs.declared.records.VertexRange.{VertexRange}
 use Rattle.value_files.specs.Kept.{sum_place}
 use Rattle.windows.specs.Kept.{StaysButSums}
 use Rattle.windows.specs.Windows.{WindowState}
+use Rattle.windows.proofs.PartLemmas.{range_first, range_past}
 use Rattle.windows.proofs.StayLemmas.{coding, view_stored}
 use Rattle.windows.proofs.windows.Windows.store_early.Goals as goal
 
@@ -26,8 +26,8 @@ returns-clause-stays g c =
     let cut = c.self.inside.parts in
     let first = c.range_of-range.result.first in
     let past = c.range_of-range.result.past in
-    let first_is : first ≡ first_vertex cut.vertices (chunk_of cut) c.args.part = ap (λ (r : VertexRange). r.first) c.range_of-range.ensures.value in
-    let past_is : past ≡ first_vertex cut.vertices (chunk_of cut) (c.args.part + 1) = ap (λ (r : VertexRange). r.past) c.range_of-range.ensures.value in
+    let first_is : first ≡ first_vertex cut.vertices (chunk_of cut) c.args.part = range_first c.range_of-range.result cut.vertices (chunk_of cut) c.args.part c.range_of-range.ensures.value in
+    let past_is : past ≡ first_vertex cut.vertices (chunk_of cut) (c.args.part + 1) = range_past c.range_of-range.result cut.vertices (chunk_of cut) c.args.part c.range_of-range.ensures.value in
     let told = g.D.Depot.holds c.args.depot.now in
     let after = g.D.Depot.holds c.store_sums.new.depot in
     let slice = take (past - first) c.deref.result.now in

@@ -438,6 +438,7 @@ impl<G: VertexProgram> Windows<G> {
         ensures shown { IfSome (D.holds depot.old FileKind.Info) (λ file. OnOk result (IsFirst self.new part (given_values (G.model program.now) file))) }
         ensures hot { IfSome (D.holds depot.old FileKind.Info) (λ file. IfOk result (λ hot. hot ≡ list_any (λ v. (G.model program.now).contributes (given_values (G.model program.now) file v))
             (range_with_len (chunk_first self.old part) (chunk_count self.old part)))) }
+        ensures part { OnOk result (self.new.first_part ≡ part) }
         ensures by_window { (state : ℕ → G.Value) → IsFirst self.new part state
             → IfOk result (λ hot. hot ≡ list_any (λ v. (G.model program.now).contributes (state v)) (range_with_len (chunk_first self.old part) (chunk_count self.old part))) }
         ensures alone { self.new ≡ record self.old { first_part = self.new.first_part; first = self.new.first; second = self.new.second; even = self.new.even } }
@@ -487,6 +488,7 @@ impl<G: VertexProgram> Windows<G> {
         ensures kept { (u : ℕ) (state : ℕ → G.Value) (edges : List Edge) → t ≡ u + 1 → Keeps ⟦<G as Coded>⟧.coding self.old (D.holds depot.old) u part state → HasSums (G.model program.now) self.old part state edges
             → IfOk result (λ end. end.over ≡ None → Keeps ⟦<G as Coded>⟧.coding self.new (D.holds depot.new) t part (next_values (G.model program.now) edges state)) }
         ensures shown { (u : ℕ) (state : ℕ → G.Value) → t ≡ u + 1 → Keeps ⟦<G as Coded>⟧.coding self.old (D.holds depot.old) u part state → OnOk result (IsFirst self.new part state) }
+        ensures part { OnOk result (self.new.first_part ≡ part) }
         ensures by_window { (state : ℕ → G.Value) (sum : ℕ → G.Sum) → IsFirst self.new part state → IsChunk sum (chunk_first self.old part) (take (chunk_count self.old part) self.old.sums)
             → IfOk result (λ end. end ≡ finish_of (G.model program.now) state sum (chunk_first self.old part) (chunk_count self.old part)) }
         ensures alone { self.new ≡ record self.old { first_part = self.new.first_part; first = self.new.first; second_part = self.new.second_part; second = self.new.second; even = self.new.even; odd = self.new.odd } }

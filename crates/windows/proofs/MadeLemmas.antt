@@ -87,16 +87,11 @@ load_all cut w pinned j high = ap (λ b. cond b 0 (w * part_length cut.vertices 
 pub rose_none : (x y n : ℕ) → y ≡ x → n ≡ 0 → RoseBy x y n
 rose_none x y n same none low = omega arith
 
--- what follows of a file that is told, and of an answer, in either order
+-- what follows of an answer, and of a file that is told
 pub told_on_ok : {T E : Type 0} (result : Result T E) (told : Option (List ℕ)) (P : List ℕ → Type 0) → OnOk result (IfSome told P) → IfSome told (λ file. OnOk result (P file))
 told_on_ok (Ok x) told P h = h
 told_on_ok (Err e) None P h = tt
 told_on_ok (Err e) (Some file) P h = tt
-
-pub told_if_ok : {T E : Type 0} (result : Result T E) (told : Option (List ℕ)) (P : T → List ℕ → Type 0) → IfOk result (λ x. IfSome told (P x)) → IfSome told (λ file. IfOk result (λ x. P x file))
-told_if_ok (Ok x) told P h = h
-told_if_ok (Err e) None P h = tt
-told_if_ok (Err e) (Some file) P h = tt
 
 pub on_ok_always : {T E : Type 0} (result : Result T E) (P : Type 0) → P → OnOk result P
 on_ok_always (Ok x) P h = h
@@ -110,6 +105,23 @@ pub if_ok_both : {T E : Type 0} (result : Result T E) (P Q R : T → Type 0) →
 if_ok_both (Ok x) P Q R step first second = step x first second
 if_ok_both (Err e) P Q R step first second = tt
 
+-- what was read of an answer that is good
+pub on_ok_then : {T E : Type 0} (result : Result T E) (Q : Type 0) (P : T → Type 0) → OnOk result Q → (Q → IfOk result P) → IfOk result P
+on_ok_then (Ok x) Q P h step = step h
+on_ok_then (Err e) Q P h step = tt
+
+-- what the values of a chunk come out as, in its range
+pub closed_range : {V S : Type 0} (p : Program V S) (cut : Cut) (j : ℕ) (r : VertexRange) (before after : List V) (sums : List S) (end : Finish) (state : ℕ → V) (sum : ℕ → S) → r ≡ part_range cut.vertices (chunk_of cut) j
+    → ((state : ℕ → V) (sum : ℕ → S) → IsChunk state r.first (take (r.past - r.first) (drop r.first before)) → IsChunk sum r.first (take (r.past - r.first) sums)
+    → IsChunk (applied p state sum) r.first (take (r.past - r.first) (drop r.first after)) × (end ≡ finish_of p state sum r.first (r.past - r.first)))
+    → IsChunk state (first_vertex cut.vertices (chunk_of cut) j) (chunk_in cut j before) → IsChunk sum (first_vertex cut.vertices (chunk_of cut) j) (take (part_length cut.vertices (chunk_of cut) j) sums)
+    → IsChunk (applied p state sum) (first_vertex cut.vertices (chunk_of cut) j) (chunk_in cut j after) × (end ≡ finish_of p state sum (first_vertex cut.vertices (chunk_of cut) j) (part_length cut.vertices (chunk_of cut) j))
+closed_range p cut j r before after sums end state sum is step chunk total =
+    subst (λ (x : VertexRange). IsChunk (applied p state sum) x.first (take (x.past - x.first) (drop x.first after)) × (end ≡ finish_of p state sum x.first (x.past - x.first))) is
+    (step state sum
+    (subst (λ (x : VertexRange). IsChunk state x.first (take (x.past - x.first) (drop x.first before))) (sym is) chunk)
+    (subst (λ (x : VertexRange). IsChunk sum x.first (take (x.past - x.first) sums)) (sym is) total))
+
 module _ {V S : Type 0} (p : Program V S) (value_of : List ℕ → Option V) (w : ℕ) (cut : Cut) (pinned t u j : ℕ) (next : t ≡ u + 1) (even odd : List V) (told : Option (List ℕ)) (state : ℕ → V) (sum : ℕ → S) (sums : List S)
     (keeps : KeepsPart value_of w cut pinned u j even odd told state) (total : IsChunk sum (first_vertex cut.vertices (chunk_of cut) j) (take (part_length cut.vertices (chunk_of cut) j) sums)) where
   -- what the values of a chunk in memory come out as
@@ -120,10 +132,7 @@ module _ {V S : Type 0} (p : Program V S) (value_of : List ℕ → Option V) (w 
   closed_in_memory r after end is low step =
       let prior : u ≡ t - 1 = omega arith in
       let items : keeps.items ≡ chunk_in cut j (turn_list (t - 1) even odd) = keeps.kept.in_memory low ∙ ap (λ (k : ℕ). chunk_in cut j (turn_list k even odd)) prior in
-      subst (λ (x : VertexRange). IsChunk (applied p state sum) x.first (take (x.past - x.first) (drop x.first after)) × (end ≡ finish_of p state sum x.first (x.past - x.first))) is
-      (step state sum
-      (subst (λ (x : VertexRange). IsChunk state x.first (take (x.past - x.first) (drop x.first (turn_list (t - 1) even odd)))) (sym is) (subst (IsChunk state (first_vertex cut.vertices (chunk_of cut) j)) items keeps.chunk))
-      (subst (λ (x : VertexRange). IsChunk sum x.first (take (x.past - x.first) sums)) (sym is) total))
+      closed_range p cut j r (turn_list (t - 1) even odd) after sums end state sum is step (subst (IsChunk state (first_vertex cut.vertices (chunk_of cut) j)) items keeps.chunk) total
 
   -- the values before, which stand in the file
   pub before_filed : pinned ≤ j → AreFiled value_of w cut (t - 1) j told keeps.items

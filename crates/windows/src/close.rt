@@ -116,6 +116,10 @@ pub(crate) fn close_in_file<G: VertexProgram, D: Depot>(
         → IsChunk sum (first_vertex parts.vertices (chunk_of parts) part) (take (part_length parts.vertices (chunk_of parts) part) sums.now)
         → IfOk result (λ end. (end ≡ finish_of (G.model program.now) state sum (first_vertex parts.vertices (chunk_of parts) part) (part_length parts.vertices (chunk_of parts) part))
         × IsChunk (applied (G.model program.now) state sum) (first_vertex parts.vertices (chunk_of parts) part) (take (part_length parts.vertices (chunk_of parts) part) second.new)) }
+    ensures by_window { (state : ℕ → G.Value) (sum : ℕ → G.Sum)
+        → IsChunk state (first_vertex parts.vertices (chunk_of parts) part) (take (part_length parts.vertices (chunk_of parts) part) first.new)
+        → IsChunk sum (first_vertex parts.vertices (chunk_of parts) part) (take (part_length parts.vertices (chunk_of parts) part) sums.now)
+        → IfOk result (λ end. end ≡ finish_of (G.model program.now) state sum (first_vertex parts.vertices (chunk_of parts) part) (part_length parts.vertices (chunk_of parts) part)) }
     ensures filed { IsSome (D.holds depot.old FileKind.Values) → IfOk result (λ end. end.over ≡ None
         → AreFiled G.Value.value_of G.Value.WIDTH parts t part (D.holds depot.new FileKind.Values) (take (part_length parts.vertices (chunk_of parts) part) second.new)) }
     ensures loaded { (xs : List G.Value) → AreFiled G.Value.value_of G.Value.WIDTH parts (t - 1) part (D.holds depot.old FileKind.Values) xs

@@ -102,8 +102,8 @@ fn initial_values<G: VertexProgram, D: Depot>(
     requires few { first + length values.old ≤ 268435456 }
     requires inside { IfSome (D.holds depot.old FileKind.Info) (λ file. 12 * (first + length values.old) ≤ length file) }
     ensures given { OnOk result (IfSome (D.holds depot.old FileKind.Info) (λ file. IsChunk (given_values (G.model program.now) file) first values.new)) }
-    ensures hot { IfOk result (λ hot. IfSome (D.holds depot.old FileKind.Info) (λ file. hot ≡ list_any (λ v. (G.model program.now).contributes (given_values (G.model program.now) file v))
-        (range_with_len first (length values.old)))) }
+    ensures hot { (state : ℕ → G.Value) → IsChunk state first values.new
+        → IfOk result (λ hot. hot ≡ list_any (λ v. (G.model program.now).contributes (state v)) (range_with_len first (length values.old))) }
     ensures taken { OnOk result (RoseBy (D.taken depot.old FileKind.Info) (D.taken depot.new FileKind.Info) (12 * length values.old)) }
     ensures taken_most { D.taken depot.new FileKind.Info ≤ D.taken depot.old FileKind.Info + 12 * length values.old }
     ensures reads { Reads D.holds D.taken D.stored D.faults D.attached FileKind.Info depot.old depot.new }
@@ -130,8 +130,8 @@ pub(crate) fn initial_in_memory<G: VertexProgram, D: Depot>(
     requires even_fits { range.past ≤ length even.old }
     requires inside { IfSome (D.holds depot.old FileKind.Info) (λ file. 12 * range.past ≤ length file) }
     ensures given { OnOk result (IfSome (D.holds depot.old FileKind.Info) (λ file. IsChunk (given_values (G.model program.now) file) range.first (take (range.past - range.first) (drop range.first even.new)))) }
-    ensures hot { IfOk result (λ hot. IfSome (D.holds depot.old FileKind.Info) (λ file. hot ≡ list_any (λ v. (G.model program.now).contributes (given_values (G.model program.now) file v))
-        (range_with_len range.first (range.past - range.first)))) }
+    ensures hot { (state : ℕ → G.Value) → IsChunk state range.first (take (range.past - range.first) (drop range.first even.new))
+        → IfOk result (λ hot. hot ≡ list_any (λ v. (G.model program.now).contributes (state v)) (range_with_len range.first (range.past - range.first))) }
     ensures rest { even.new ≡ put_in range.first (take (range.past - range.first) (drop range.first even.new)) even.old }
     ensures taken { OnOk result (RoseBy (D.taken depot.old FileKind.Info) (D.taken depot.new FileKind.Info) (12 * (range.past - range.first))) }
     ensures taken_most { D.taken depot.new FileKind.Info ≤ D.taken depot.old FileKind.Info + 12 * (range.past - range.first) }
@@ -162,8 +162,9 @@ pub(crate) fn initial_in_file<G: VertexProgram, D: Depot>(
         (first_vertex parts.vertices (chunk_of parts) part) (take (part_length parts.vertices (chunk_of parts) part) out.new))) }
     ensures filed { IsSome (D.holds depot.old FileKind.Values) → OnOk result (AreFiled G.Value.value_of G.Value.WIDTH parts 0 part (D.holds depot.new FileKind.Values)
         (take (part_length parts.vertices (chunk_of parts) part) out.new)) }
-    ensures hot { IfOk result (λ hot. IfSome (D.holds depot.old FileKind.Info) (λ file. hot ≡ list_any (λ v. (G.model program.now).contributes (given_values (G.model program.now) file v))
-        (range_with_len (first_vertex parts.vertices (chunk_of parts) part) (part_length parts.vertices (chunk_of parts) part)))) }
+    ensures hot { (state : ℕ → G.Value) → IsChunk state (first_vertex parts.vertices (chunk_of parts) part) (take (part_length parts.vertices (chunk_of parts) part) out.new)
+        → IfOk result (λ hot. hot ≡ list_any (λ v. (G.model program.now).contributes (state v))
+        (range_with_len (first_vertex parts.vertices (chunk_of parts) part) (part_length parts.vertices (chunk_of parts) part))) }
     ensures outside { SameOutsideTold (value_place G.Value.WIDTH parts.vertices 0 (first_vertex parts.vertices (chunk_of parts) part))
         (G.Value.WIDTH * part_length parts.vertices (chunk_of parts) part) (D.holds depot.old FileKind.Values) (D.holds depot.new FileKind.Values) }
     ensures taken { OnOk result (RoseBy (D.taken depot.old FileKind.Info) (D.taken depot.new FileKind.Info) (12 * part_length parts.vertices (chunk_of parts) part)) }

@@ -1,11 +1,11 @@
 // The windows.
-ghost use Rattle.std.specs.Prelude.{◌≡◌, ◌≢◌, ◌≤◌, ◌<◌, ◌+◌, ◌-◌, ◌*◌, ◌^◌, ◌++◌, [], ℕ, List, All, Err, None, length, IfErr, IfOk, IfSome, IsOk, IsSome, OnOk};
+ghost use Rattle.std.specs.Prelude.{◌≡◌, ◌≢◌, ◌≤◌, ◌<◌, ◌+◌, ◌-◌, ◌*◌, ◌^◌, ◌++◌, [], ℕ, List, All, Err, None, length, take, IfErr, IfOk, IfSome, IsOk, IsSome, OnOk};
 ghost use Rattle.std.specs.List.{list_any, range_with_len};
 ghost use Rattle.lumos_base.specs.declared.records.Edge.{Edge};
 ghost use Rattle.lumos_depot.specs.Causes.{Rose};
 ghost use Rattle.lumos_depot.specs.declared.depot.FileKind.{FileKind};
 ghost use Rattle.lumos_depot.specs.Steps.{Moves, Reads, RoseBy, Stores};
-ghost use Rattle.lumos_law.specs.Sync.{next_values, sum_at};
+ghost use Rattle.lumos_law.specs.Sync.{next_values, sum_at, IsChunk};
 ghost use Rattle.partition.specs.Parts.{chunk_of, first_vertex, part_length, IsInPart};
 ghost use Rattle.flight_core.specs.Finish.{IsOver, finish_of};
 ghost use Rattle.value_files.specs.Records.{FaultIs, IsIntact};
@@ -438,6 +438,9 @@ impl<G: VertexProgram> Windows<G> {
         ensures shown { IfSome (D.holds depot.old FileKind.Info) (λ file. OnOk result (IsFirst self.new part (given_values (G.model program.now) file))) }
         ensures hot { IfSome (D.holds depot.old FileKind.Info) (λ file. IfOk result (λ hot. hot ≡ list_any (λ v. (G.model program.now).contributes (given_values (G.model program.now) file v))
             (range_with_len (chunk_first self.old part) (chunk_count self.old part)))) }
+        ensures part { OnOk result (self.new.first_part ≡ part) }
+        ensures by_window { (state : ℕ → G.Value) → IsFirst self.new part state
+            → IfOk result (λ hot. hot ≡ list_any (λ v. (G.model program.now).contributes (state v)) (range_with_len (chunk_first self.old part) (chunk_count self.old part))) }
         ensures alone { self.new ≡ record self.old { first_part = self.new.first_part; first = self.new.first; second = self.new.second; even = self.new.even } }
         ensures second { self.old.second_part ≢ part → self.new.second ≡ self.old.second }
         ensures stays { StaysBut ⟦<G as Coded>⟧.coding 0 part self.old (D.holds depot.old) self.new (D.holds depot.new) }
@@ -485,6 +488,9 @@ impl<G: VertexProgram> Windows<G> {
         ensures kept { (u : ℕ) (state : ℕ → G.Value) (edges : List Edge) → t ≡ u + 1 → Keeps ⟦<G as Coded>⟧.coding self.old (D.holds depot.old) u part state → HasSums (G.model program.now) self.old part state edges
             → IfOk result (λ end. end.over ≡ None → Keeps ⟦<G as Coded>⟧.coding self.new (D.holds depot.new) t part (next_values (G.model program.now) edges state)) }
         ensures shown { (u : ℕ) (state : ℕ → G.Value) → t ≡ u + 1 → Keeps ⟦<G as Coded>⟧.coding self.old (D.holds depot.old) u part state → OnOk result (IsFirst self.new part state) }
+        ensures part { OnOk result (self.new.first_part ≡ part) }
+        ensures by_window { (state : ℕ → G.Value) (sum : ℕ → G.Sum) → IsFirst self.new part state → IsChunk sum (chunk_first self.old part) (take (chunk_count self.old part) self.old.sums)
+            → IfOk result (λ end. end ≡ finish_of (G.model program.now) state sum (chunk_first self.old part) (chunk_count self.old part)) }
         ensures alone { self.new ≡ record self.old { first_part = self.new.first_part; first = self.new.first; second_part = self.new.second_part; second = self.new.second; even = self.new.even; odd = self.new.odd } }
         ensures stays { StaysBut ⟦<G as Coded>⟧.coding t part self.old (D.holds depot.old) self.new (D.holds depot.new) }
         ensures sized { IsSized ⟦<G as Coded>⟧.coding self.new (D.holds depot.new) }

@@ -1,4 +1,4 @@
-use Rattle.std.proofs.Common.{◌≡◌, ◌≤◌, ◌++◌, ◌+◌, ◌-◌, ◌%◌, ◌==◌, ℕ, true, cond, None, List, length, take, drop, refl, ap, subst, ◌∙◌, arith}
+use Rattle.std.proofs.Common.{◌≡◌, ◌≤◌, ◌++◌, ◌+◌, ◌-◌, ◌%◌, ◌==◌, inl, ℕ, true, cond, None, List, length, take, drop, refl, sym, ap, subst, ◌∙◌, arith}
 use Rattle.std.specs.Prelude.{IfOk, is_some}
 use Rattle.std.proofs.lemmas.List.{take_at}
 use Rattle.lumos_depot.specs.declared.depot.FileKind.TheVariants.{Sums, Values}
@@ -9,8 +9,8 @@ use Rattle.flight_core.specs.Finish.{applied, finish_of}
 use Rattle.value_files.specs.Kept.{value_place}
 use Rattle.windows.specs.Kept.{AreFiled}
 use Rattle.windows.specs.Windows.{WindowState, chunk_count, chunk_first, chunk_in, put_in, shown_of, turn_list}
-use Rattle.windows.proofs.KeptLemmas.{chunk_long, kept_filed, shown_high, told_is_some, turn_long}
-use Rattle.windows.proofs.MadeLemmas.{before_filed, before_stays, closed_in_memory, file_keeps, if_ok_both, kept_first, memory_keeps}
+use Rattle.windows.proofs.KeptLemmas.{beside, chunk_long, kept_filed, shown_high, shown_low, told_is_some, turn_long}
+use Rattle.windows.proofs.MadeLemmas.{before_filed, before_stays, closed_in_memory, closed_range, file_keeps, if_ok_both, kept_first, memory_keeps, turns_differ}
 use Rattle.windows.proofs.PartLemmas.{part_below, part_ends, range_past}
 use Rattle.windows.proofs.ResultLemmas.{if_ok_more, on_ok_more}
 use Rattle.windows.proofs.StayLemmas.{first_shown, keeps_seen, sums_seen, view_filed, view_sized, view_sized_filed, view_written}
@@ -106,6 +106,43 @@ returns-then-part-self-clause-shown g c u state next keeps =
     let prior : c.args.t - 1 ≡ u = omega (arith, next) in
     kept_first _ u j state value_of w (told Values) fields.first.items new_even new_odd refl
     (λ i. shown_of cut fields.pinned j (prior i) fields.first.items (whole_even i) (whole_odd i)) low stays
+
+pub returns-then-part-self-clause-by_window : goal.returns-then-part-self-clause-by_window
+returns-then-part-self-clause-by_window g c state sum shown total =
+    let p = g.G.VertexProgram.model c.args.program.now in
+    let fields = c.self.inside in
+    let cut = fields.parts in
+    let n = cut.vertices in
+    let k = chunk_of cut in
+    let j = c.args.part in
+    let t = c.args.t in
+    let low = c.if-part-self.true in
+    let even = c.deref_mut.result.now in
+    let odd = c.deref_mut-then-part-self.result.now in
+    let sums = c.deref.result.now in
+    let new_even = c.close_in_memory.new.even in
+    let new_odd = c.close_in_memory.new.odd in
+    let turn = turn_list t new_even new_odd in
+    let long_even : length new_even ≡ fields.even.len = omega (arith, c.close_in_memory.auto.even, c.deref_mut.ensures.len) in
+    let long_odd : length new_odd ≡ fields.odd.len = omega (arith, c.close_in_memory.auto.odd, c.deref_mut-then-part-self.ensures.len) in
+    let whole_even : take fields.even.len (new_even ++ drop (length new_even) fields.even.items) ≡ new_even = take_at new_even _ _ long_even in
+    let whole_odd : take fields.odd.len (new_odd ++ drop (length new_odd) fields.odd.items) ≡ new_odd = take_at new_odd _ _ long_odd in
+    let below = part_below n k j fields.pinned low in
+    let reach = turn_long (first_vertex n k (j + 1)) t new_even new_odd (omega (arith, below, long_even, c.self.invariant.even_fits)) (omega (arith, below, long_odd, c.self.invariant.odd_fits)) in
+    let room : first_vertex n k j + part_length n k j ≤ length (turn_list t even odd) =
+    turn_long (first_vertex n k j + part_length n k j) t even odd (omega (arith, part_ends n k j, below, c.deref_mut.ensures.len, c.self.invariant.even_fits)) (omega (arith, part_ends n k j, below, c.deref_mut-then-part-self.ensures.len, c.self.invariant.odd_fits)) in
+    let e : new_even ≡ cond (t % 2 == 1) even (put_in (first_vertex n k j) (chunk_in cut j turn) even) =
+    subst (λ (r : VertexRange). new_even ≡ cond (t % 2 == 1) even (put_in r.first (take (r.past - r.first) (drop r.first turn)) even)) c.range_of-range.ensures.value c.close_in_memory.ensures.even in
+    let o : new_odd ≡ cond (t % 2 == 1) (put_in (first_vertex n k j) (chunk_in cut j turn) odd) odd =
+    subst (λ (r : VertexRange). new_odd ≡ cond (t % 2 == 1) (put_in r.first (take (r.past - r.first) (drop r.first turn)) odd) odd) c.range_of-range.ensures.value c.close_in_memory.ensures.odd in
+    let next : t ≡ t - 1 + 1 = omega (arith, c.requires.some) in
+    let first_is = (λ i. shown_of cut fields.pinned j (t - 1) fields.first.items (whole_even i) (whole_odd i)) ∙ shown_low cut fields.pinned j (t - 1) fields.first.items new_even new_odd low
+    ∙ beside cut t j (t - 1) j even odd new_even new_odd (chunk_in cut j turn) (inl (turns_differ t (t - 1) next)) (chunk_long cut j turn reach) room e o in
+    let here : IsChunk state (first_vertex n k j) (chunk_in cut j (turn_list (t - 1) even odd)) = subst (IsChunk state (first_vertex n k j)) first_is shown.chunk in
+    let fed = subst (λ (x : WindowState _ _). IsChunk sum (chunk_first x j) (take (chunk_count x j) x.sums)) (sym c.self.view_is) total in
+    let fed_here : IsChunk sum (first_vertex n k j) (take (part_length n k j) sums) = subst (λ (l : List _). IsChunk sum (first_vertex n k j) (take (part_length n k j) l)) (sym c.deref.ensures.value) fed in
+    subst (λ (x : WindowState _ _). c.close_in_memory.result ≡ finish_of p state sum (chunk_first x j) (chunk_count x j)) c.self.view_is
+    (closed_range p cut j c.range_of-range.result (turn_list (t - 1) even odd) turn sums c.close_in_memory.result state sum c.range_of-range.ensures.value c.close_in_memory.ensures.step here fed_here).1
 
 pub returns-then-part-self-clause-stays : goal.returns-then-part-self-clause-stays
 returns-then-part-self-clause-stays g c =
@@ -208,6 +245,25 @@ returns-clause-shown g c u state next keeps =
     (λ xs kept. on_ok_more result (take (part_length cut.vertices (chunk_of cut) j) out ≡ xs) _
     (λ is. ap (λ l. shown_of cut fields.pinned j (c.args.t - 1) l fields.even.items fields.odd.items) whole ∙ shown_high cut fields.pinned j (c.args.t - 1) out fields.even.items fields.odd.items high ∙ is)
     (c.close_in_file.ensures.loaded xs (subst (λ (m : ℕ). AreFiled value_of w cut m j (told Values) xs) prior (kept_filed value_of w cut fields.pinned u j fields.even.items fields.odd.items (told Values) xs high kept)))) keeps
+
+pub returns-clause-by_window : goal.returns-clause-by_window
+returns-clause-by_window g c state sum shown total =
+    let p = g.G.VertexProgram.model c.args.program.now in
+    let fields = c.self.inside in
+    let cut = fields.parts in
+    let n = cut.vertices in
+    let k = chunk_of cut in
+    let j = c.args.part in
+    let t = c.args.t in
+    let result = c.close_in_file.result in
+    let out = c.close_in_file.new.first in
+    let size : length out ≡ fields.first.len = omega (arith, c.close_in_file.auto.first, c.deref_mut-2.ensures.len) in
+    let whole : take fields.first.len (out ++ drop (length out) fields.first.items) ≡ out = take_at out _ _ size in
+    let first_is = ap (λ l. shown_of cut fields.pinned j (t - 1) l fields.even.items fields.odd.items) whole ∙ shown_high cut fields.pinned j (t - 1) out fields.even.items fields.odd.items c.if-part-self.false in
+    let fed = subst (λ (x : WindowState _ _). IsChunk sum (chunk_first x j) (take (chunk_count x j) x.sums)) (sym c.self.view_is) total in
+    subst (λ (x : WindowState _ _). IfOk result (λ end. end ≡ finish_of p state sum (chunk_first x j) (chunk_count x j))) c.self.view_is
+    (c.close_in_file.ensures.by_window state sum (subst (IsChunk state (first_vertex n k j)) first_is shown.chunk)
+    (subst (λ (l : List _). IsChunk sum (first_vertex n k j) (take (part_length n k j) l)) (sym c.deref-2.ensures.value) fed))
 
 pub returns-clause-stays : goal.returns-clause-stays
 returns-clause-stays g c =

@@ -11,8 +11,8 @@ use Rattle.partition.specs.declared.records.VertexRange.{VertexRange}
 use Rattle.windows.specs.Kept.{AreFiled, load_bytes, load_of}
 use Rattle.windows.specs.Sums.{given_values}
 use Rattle.windows.specs.Windows.{WindowState, chunk_count, chunk_first, chunk_in, put_in, shown_of}
-use Rattle.windows.proofs.KeptLemmas.{chunk_long}
-use Rattle.windows.proofs.MadeLemmas.{file_keeps, load_none, memory_first, memory_keeps, on_ok_always, on_ok_both, rose_none, shown_beside, told_if_ok, told_on_ok, window_first}
+use Rattle.windows.proofs.KeptLemmas.{chunk_long, shown_high, shown_low}
+use Rattle.windows.proofs.MadeLemmas.{file_keeps, load_none, memory_first, memory_keeps, on_ok_always, on_ok_both, on_ok_then, rose_none, shown_beside, told_on_ok, window_first}
 use Rattle.windows.proofs.PartLemmas.{part_below, part_ends, part_short, range_past}
 use Rattle.windows.proofs.ResultLemmas.{on_ok_more}
 use Rattle.windows.proofs.StayLemmas.{coding, view_filed, view_sized, view_sized_filed, view_written}
@@ -69,11 +69,31 @@ returns-then-part-self-clause-hot g c =
     let p = g.G.VertexProgram.model c.args.program.now in
     let cut = c.self.inside.parts in
     let j = c.args.part in
+    let even = c.initial_in_memory.new.even in
     let result = c.initial_in_memory.result in
     let told = g.D.Depot.holds c.args.depot.now Info in
-    let hot = subst (λ (r : VertexRange). IfOk result (λ hot. IfSome told (λ file. hot ≡ list_any (λ v. p.contributes (given_values p file v)) (range_with_len r.first (r.past - r.first))))) c.range_of-range.ensures.value c.initial_in_memory.ensures.hot in
+    let chunks = λ (r : VertexRange) (file : List ℕ). IsChunk (given_values p file) r.first (take (r.past - r.first) (drop r.first even)) in
+    let hot = told_more told (λ file. OnOk result (chunks c.range_of-range.result file)) (λ file. IfOk result (λ hot. hot ≡ list_any (λ v. p.contributes (given_values p file v)) (range_with_len c.range_of-range.result.first (c.range_of-range.result.past - c.range_of-range.result.first))))
+    (λ file given. on_ok_then result (chunks c.range_of-range.result file) _ given (c.initial_in_memory.ensures.hot (given_values p file)))
+    (told_on_ok result told (chunks c.range_of-range.result) c.initial_in_memory.ensures.given) in
     subst (λ (x : WindowState _ _). IfSome told (λ file. IfOk result (λ hot. hot ≡ list_any (λ v. p.contributes (given_values p file v)) (range_with_len (chunk_first x j) (chunk_count x j))))) c.self.view_is
-    (told_if_ok result told (λ hot file. hot ≡ list_any (λ v. p.contributes (given_values p file v)) (range_with_len (first_vertex cut.vertices (chunk_of cut) j) (part_length cut.vertices (chunk_of cut) j))) hot)
+    (subst (λ (r : VertexRange). IfSome told (λ file. IfOk result (λ hot. hot ≡ list_any (λ v. p.contributes (given_values p file v)) (range_with_len r.first (r.past - r.first))))) c.range_of-range.ensures.value hot)
+
+pub returns-then-part-self-clause-by_window : goal.returns-then-part-self-clause-by_window
+returns-then-part-self-clause-by_window g c state shown =
+    let p = g.G.VertexProgram.model c.args.program.now in
+    let fields = c.self.inside in
+    let cut = fields.parts in
+    let j = c.args.part in
+    let even = c.initial_in_memory.new.even in
+    let result = c.initial_in_memory.result in
+    let long : length even ≡ fields.even.len = omega (arith, c.initial_in_memory.auto.even, c.deref_mut.ensures.len) in
+    let whole : take fields.even.len (even ++ drop (length even) fields.even.items) ≡ even = take_at even _ _ long in
+    let first_is = ap (λ l. shown_of cut fields.pinned j 0 fields.first.items l fields.odd.items) whole ∙ shown_low cut fields.pinned j 0 fields.first.items even fields.odd.items c.if-part-self.true in
+    let here : IsChunk state (first_vertex cut.vertices (chunk_of cut) j) (chunk_in cut j even) = subst (IsChunk state (first_vertex cut.vertices (chunk_of cut) j)) first_is shown.chunk in
+    let hot = c.initial_in_memory.ensures.hot state (subst (λ (r : VertexRange). IsChunk state r.first (take (r.past - r.first) (drop r.first even))) (sym c.range_of-range.ensures.value) here) in
+    subst (λ (x : WindowState _ _). IfOk result (λ hot. hot ≡ list_any (λ v. p.contributes (state v)) (range_with_len (chunk_first x j) (chunk_count x j)))) c.self.view_is
+    (subst (λ (r : VertexRange). IfOk result (λ hot. hot ≡ list_any (λ v. p.contributes (state v)) (range_with_len r.first (r.past - r.first)))) c.range_of-range.ensures.value hot)
 
 pub returns-then-part-self-clause-second : goal.returns-then-part-self-clause-second
 returns-then-part-self-clause-second g c apart =
@@ -177,11 +197,30 @@ pub returns-clause-hot : goal.returns-clause-hot
 returns-clause-hot g c =
     let p = g.G.VertexProgram.model c.args.program.now in
     let cut = c.self.inside.parts in
+    let n = cut.vertices in
+    let k = chunk_of cut in
     let j = c.args.part in
     let result = c.initial_in_file.result in
     let told = g.D.Depot.holds c.args.depot.now Info in
+    let chunks = λ (file : List ℕ). IsChunk (given_values p file) (first_vertex n k j) (take (part_length n k j) c.initial_in_file.new.out) in
     subst (λ (x : WindowState _ _). IfSome told (λ file. IfOk result (λ hot. hot ≡ list_any (λ v. p.contributes (given_values p file v)) (range_with_len (chunk_first x j) (chunk_count x j))))) c.self.view_is
-    (told_if_ok result told (λ hot file. hot ≡ list_any (λ v. p.contributes (given_values p file v)) (range_with_len (first_vertex cut.vertices (chunk_of cut) j) (part_length cut.vertices (chunk_of cut) j))) c.initial_in_file.ensures.hot)
+    (told_more told (λ file. OnOk result (chunks file)) (λ file. IfOk result (λ hot. hot ≡ list_any (λ v. p.contributes (given_values p file v)) (range_with_len (first_vertex n k j) (part_length n k j))))
+    (λ file given. on_ok_then result (chunks file) _ given (c.initial_in_file.ensures.hot (given_values p file)))
+    (told_on_ok result told chunks c.initial_in_file.ensures.given))
+
+pub returns-clause-by_window : goal.returns-clause-by_window
+returns-clause-by_window g c state shown =
+    let p = g.G.VertexProgram.model c.args.program.now in
+    let fields = c.self.inside in
+    let cut = fields.parts in
+    let j = c.args.part in
+    let result = c.initial_in_file.result in
+    let out = c.initial_in_file.new.out in
+    let size : length out ≡ fields.first.len = omega (arith, c.initial_in_file.auto.out, c.deref_mut-2.ensures.len) in
+    let whole : take fields.first.len (out ++ drop (length out) fields.first.items) ≡ out = take_at out _ _ size in
+    let first_is = ap (λ l. shown_of cut fields.pinned j 0 l fields.even.items fields.odd.items) whole ∙ shown_high cut fields.pinned j 0 out fields.even.items fields.odd.items c.if-part-self.false in
+    subst (λ (x : WindowState _ _). IfOk result (λ hot. hot ≡ list_any (λ v. p.contributes (state v)) (range_with_len (chunk_first x j) (chunk_count x j)))) c.self.view_is
+    (c.initial_in_file.ensures.hot state (subst (IsChunk state (first_vertex cut.vertices (chunk_of cut) j)) first_is shown.chunk))
 
 pub returns-clause-stays : goal.returns-clause-stays
 returns-clause-stays g c =

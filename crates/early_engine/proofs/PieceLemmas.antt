@@ -59,11 +59,14 @@ fault_behind T U cursor k n bytes (Damaged file place found) room first second =
 -- a word of the next records is one of all
 pub damage_behind : (file : FileKind) (ends : Ends) (place left k n : ℕ) (fault : FileFault) → k + n ≤ left → IsDamage file ends (place + 12 * k) n fault → IsDamage file ends place left fault
 damage_behind file ends place left k n Depot room damage = tt
-damage_behind file ends place left k n (Damaged other at found) room (same, stray) = (same, record {
-  index = k + stray.index;
-  low = let below = stray.low in omega arith;
-  word = by stray.word;
-})
+damage_behind file ends place left k n (Damaged other at found) room (same, stray) = (
+  same,
+  record {
+    index = k + stray.index;
+    low = let below = stray.low in omega arith;
+    word = by stray.word;
+  },
+)
   where
     by : ((at ≡ place + 12 * k + 12 * stray.index) × IsOutside ends.sources found) ⊎ ((at ≡ place + 12 * k + 12 * stray.index + 4) × IsOutside ends.targets found)
         → ((at ≡ place + 12 * (k + stray.index)) × IsOutside ends.sources found) ⊎ ((at ≡ place + 12 * (k + stray.index) + 4) × IsOutside ends.targets found)

@@ -24,12 +24,14 @@ pub enum Part {
     Err,
 }
 
-// The calls of all parts are numbered from 1. The call `at` goes wrong, and its part is noted.
+// The calls of all parts are numbered from 1. The call `at` goes wrong, and its part is noted. The bytes that all calls
+// moved are counted.
 #[derive(Drop)]
 pub struct Plan {
     pub at: u32,
     pub how: Wrong,
     pub calls: Cell<u32>,
+    pub moved: Cell<usize>,
     pub hit: Cell<Option<Part>>,
 }
 
@@ -39,6 +41,7 @@ impl Plan {
             at,
             how,
             calls: Cell::new(0),
+            moved: Cell::new(0),
             hit: Cell::new(None),
         }
     }
@@ -58,12 +61,14 @@ impl Plan {
     fn moves(&self, part: Part, most: usize) -> io::Result<usize>
         ensures { IfOk result (λ n. n ≤ most) }
     {
-        match self.turn(part) {
-            None => Ok(most),
-            Some(Wrong::IsShort) => Ok(most - most / 2),
-            Some(Wrong::IsInterrupted) => Err(io::Error::from(ErrorKind::Interrupted)),
-            Some(Wrong::Fails) => Err(io::Error::from(ErrorKind::Other)),
-        }
+        let count = match self.turn(part) {
+            None => most,
+            Some(Wrong::IsShort) => most - most / 2,
+            Some(Wrong::IsInterrupted) => return Err(io::Error::from(ErrorKind::Interrupted)),
+            Some(Wrong::Fails) => return Err(io::Error::from(ErrorKind::Other)),
+        };
+        self.moved.set(self.moved.get().saturating_add(count));
+        Ok(count)
     }
 
     // A call that moves nothing, and that the system itself makes again where it is interrupted.

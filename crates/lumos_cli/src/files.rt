@@ -1,7 +1,7 @@
 // The files of a directory of the system, which tell no contents and count their faults.
 //
-// Reads go through a buffer of each file, so that the system is called for large pieces alone. Writes are handed on
-// at once, in the order in which they come.
+// Reads that go on in sequence go through a buffer of each file, so that the system is called for large pieces alone. A
+// read elsewhere asks the system for its own bytes. Writes are handed on at once, in the order in which they come.
 ghost use Rattle.std.specs.Prelude.{◌≡◌, ◌≤◌, ◌<◌, ℕ, length, vec_len, replicate, None, IfOk, IsSome, is_ok};
 ghost use Rattle.std.specs.Option.{option_map};
 ghost use Rattle.lumos_depot.specs.Files.{HasCauseOutside};
@@ -19,7 +19,7 @@ use std::marker::Model;
 use std::os::unix::fs::FileExt;
 
 // The length of a file's buffer, in bytes.
-const SIZE: usize = 131072;
+const SIZE: usize = 65536;
 
 // The files in the order of their numbers.
 const KINDS: [FileKind; 7] = [
@@ -47,7 +47,8 @@ fn name_of(kind: FileKind) -> &'static str
     }
 }
 
-// A file that may be absent. The first `held` bytes of its buffer are those that it has from `start` on.
+// A file that may be absent. The first `held` bytes of its buffer are those that it has from `start` on. The bytes that
+// were read last end at `next`, and `ahead` of them were asked for at once.
 #[derive(Drop)]
 struct DepotFile<F> {
     name: String,
@@ -55,6 +56,8 @@ struct DepotFile<F> {
     buffer: Vec<u8>,
     start: u64,
     held: usize,
+    next: u64,
+    ahead: usize,
 }
 
 impl<F: FileExt + OpenFile> DepotFile<F> {
@@ -80,6 +83,8 @@ impl<F: FileExt + OpenFile> DepotFile<F> {
             buffer,
             start: 0,
             held: 0,
+            next: 0,
+            ahead: 0,
         })
     }
 
@@ -112,7 +117,7 @@ impl<F: FileExt + OpenFile> DepotFile<F> {
 
     // Cuts or extends the file. An absent one that is to be empty stays absent.
     fn resize<R: Files<File = F>>(&mut self, rt: &R, length: u64) -> Result<(), Failed> {
-        self.held = 0;
+        self.forget(0, u64::MAX);
         if self.file.is_none() && length == 0 {
             return Ok(());
         }
@@ -130,7 +135,7 @@ impl<F: FileExt + OpenFile> DepotFile<F> {
         place: u64,
         bytes: &[u8],
     ) -> Result<(), Failed> {
-        self.held = 0;
+        self.forget(place, place.saturating_add(bytes.len() as u64));
         if bytes.is_empty() {
             return Ok(());
         }
@@ -138,28 +143,49 @@ impl<F: FileExt + OpenFile> DepotFile<F> {
         write_whole(file, place, bytes)
     }
 
-    // Fills `buf`, from the buffer first. A rest as large as the buffer goes past it.
+    // Fills `buf`, from the buffer first. A rest goes past the buffer, or fills it where more is read ahead.
     fn read(&mut self, place: u64, buf: &mut [u8]) -> Result<(), Failed> {
+        let Some(past) = place.checked_add(buf.len() as u64) else {
+            return Err(Failed);
+        };
         let given = self.give(place, buf);
+        let goes_on = 0 < given || place == self.next;
+        self.next = past;
         let rest = &mut buf[given..];
         if rest.is_empty() {
             return Ok(());
         }
-        let (Some(file), Some(from)) = (&self.file, place.checked_add(given as u64)) else {
-            return Err(Failed);
-        };
-        let count = if rest.len() < SIZE {
-            self.held = 0;
-            self.held = fill(file, from, &mut self.buffer)?;
-            self.start = from;
-            self.give(from, rest)
-        } else {
-            fill(file, from, rest)?
-        };
-        if count < rest.len() {
+        let last = if goes_on { self.ahead } else { 0 };
+        self.ahead = stretch(last, rest.len());
+        let from = place + given as u64;
+        if self.fetch(from, rest)? < rest.len() {
             return Err(Failed);
         }
         Ok(())
+    }
+
+    // Gives as many bytes as the file has from a place on and have room, and keeps what is read ahead of them.
+    fn fetch(&mut self, from: u64, buf: &mut [u8]) -> Result<usize, Failed> {
+        let Some(file) = &self.file else {
+            return Err(Failed);
+        };
+        let ahead = self.ahead.min(self.buffer.len());
+        if ahead <= buf.len() {
+            return fill(file, from, buf);
+        }
+        self.held = 0;
+        self.held = fill(file, from, &mut self.buffer[..ahead])?;
+        self.start = from;
+        Ok(self.give(from, buf))
+    }
+
+    // Lets go of what was read ahead, and begins anew, where bytes of it change: those from one place up to another.
+    fn forget(&mut self, place: u64, past: u64) {
+        let end = self.start.saturating_add(self.held as u64);
+        if place < end && self.start < past {
+            self.held = 0;
+            self.ahead = 0;
+        }
     }
 
     // Gives as many bytes as the buffer holds from `place` on and have room.
@@ -176,6 +202,15 @@ impl<F: FileExt + OpenFile> DepotFile<F> {
         buf[..count].copy_from_slice(&held[..count]);
         count
     }
+}
+
+// How many bytes are read at once where so many are asked for: no more than these where the read begins anew, or where
+// they are half as many as the buffer has room for; else twice as many as the last time, up to the buffer's length.
+fn stretch(last: usize, asked: usize) -> usize {
+    if SIZE / 2 <= asked {
+        return asked;
+    }
+    asked.max(2 * last.min(SIZE / 2))
 }
 
 // The number of a file.
@@ -404,8 +439,8 @@ impl<'a, R: Files<File = F> + AllocGlobal, F: FileExt + OpenFile + Drop> Depot
         count_failed(self.files[index_of(kind)].len(), &mut self.faults)
     }
 
-    /// Cuts the file, or extends it with zero bytes, and empties its buffer. An error of the system is a fault;
-    /// `NoMemory` never comes. An absent file that is resized to 0 stays absent.
+    /// Cuts the file, or extends it with zero bytes, and lets go of what was read ahead. An error of the system is a
+    /// fault; `NoMemory` never comes. An absent file that is resized to 0 stays absent.
     fn resize(&mut self, kind: FileKind, length: u64) -> Result<(), DepotFault> {
         let resized = self.files[index_of(kind)].resize(self.rt, length);
         count_failed(resized, &mut self.faults)
@@ -415,18 +450,20 @@ impl<'a, R: Files<File = F> + AllocGlobal, F: FileExt + OpenFile + Drop> Depot
     /// fault, and so is an error of the system; a read that is interrupted is made again.
     fn read_at(&mut self, kind: FileKind, place: u64, buf: &mut [u8]) -> Result<(), DepotFault> {
         let index = index_of(kind);
+        let taken = self.taken[index];
         count_failed(self.files[index].read(place, buf), &mut self.faults)?;
-        self.taken[index] = self.taken[index].saturating_add(buf.len() as u64);
+        self.taken[index] = taken.saturating_add(buf.len() as u64);
         Ok(())
     }
 
-    /// Hands the bytes to the system, and empties the file's buffer. A write that takes nothing is a fault, and so is
-    /// an error of the system; a write that is interrupted is made again.
+    /// Hands the bytes to the system, and lets go of what was read ahead where they lie in it. A write that takes nothing
+    /// is a fault, and so is an error of the system; a write that is interrupted is made again.
     fn write_at(&mut self, kind: FileKind, place: u64, bytes: &[u8]) -> Result<(), DepotFault> {
         let index = index_of(kind);
+        let stored = self.stored[index];
         let written = self.files[index].write(self.rt, place, bytes);
         count_failed(written, &mut self.faults)?;
-        self.stored[index] = self.stored[index].saturating_add(bytes.len() as u64);
+        self.stored[index] = stored.saturating_add(bytes.len() as u64);
         Ok(())
     }
 }
@@ -434,6 +471,8 @@ impl<'a, R: Files<File = F> + AllocGlobal, F: FileExt + OpenFile + Drop> Depot
 #[cfg(test)]
 mod tests {
     use super::*;
+    use crate::fakes::{Disk, Mount, Plan, Wrong};
+    use std::alloc::Global;
     use std::test::Fail;
 
     const FOLDER: &str = "lumos_files_test";
@@ -456,9 +495,26 @@ mod tests {
         Ok(bytes)
     }
 
-    // What an absent file gives after it was written whole, was written over, and was cut and extended. `whole` is
-    // filled behind the first write.
-    fn give(rt: &HostRuntime, text: &[u8], whole: &mut [u8]) -> Result<[[u8; 4]; 5], Failed> {
+    // Reads a file from a place on, in pieces of so many bytes.
+    fn pieces<F: FileExt + OpenFile>(
+        file: &mut DepotFile<F>,
+        place: u64,
+        size: usize,
+        buf: &mut [u8],
+    ) -> Result<(), Failed>
+        requires { 0 < size }
+    {
+        let mut from = place;
+        for piece in buf.chunks_mut(size) {
+            file.read(from, piece)?;
+            from = from.saturating_add(piece.len() as u64);
+        }
+        Ok(())
+    }
+
+    // What an absent file gives after it was written whole, was written over where it was read ahead, and was cut and
+    // extended. `whole` is filled behind the first write.
+    fn give(rt: &HostRuntime, text: &[u8], whole: &mut [u8]) -> Result<[[u8; 4]; 6], Failed> {
         let Ok(mut file) = DepotFile::open(rt, FOLDER, FileKind::Sums) else {
             return Err(Failed);
         };
@@ -469,16 +525,17 @@ mod tests {
         file.write(rt, 0, text)?;
         let near = four(&mut file, 5)?;
         let far = four(&mut file, 131075)?;
-        file.read(0, whole)?;
+        pieces(&mut file, 0, 3000, whole)?;
         let again = four(&mut file, 5)?;
-        file.write(rt, 7, &[90, 91])?;
-        let written = four(&mut file, 5)?;
+        let behind = four(&mut file, 9)?;
+        file.write(rt, 15, &[90, 91])?;
+        let written = four(&mut file, 13)?;
         file.resize(rt, 7)?;
         if four(&mut file, 5).is_ok() {
             return Err(Failed);
         }
         file.resize(rt, 9)?;
-        Ok([near, far, again, written, four(&mut file, 5)?])
+        Ok([near, far, again, behind, written, four(&mut file, 5)?])
     }
 
     #[test]
@@ -502,12 +559,54 @@ mod tests {
             [5, 6, 7, 8],
             [53, 54, 55, 56],
             [5, 6, 7, 8],
-            [5, 6, 90, 91],
+            [9, 10, 11, 12],
+            [13, 14, 90, 91],
             [5, 6, 0, 0],
         ];
         assert_eq!(rt; give(&rt, &text, &mut whole), Ok(wanted));
         assert!(rt; whole == text);
         fs::remove_dir_all(&rt, FOLDER)?;
+        Ok(())
+    }
+
+    // How many calls of the system and how many bytes it takes to read a file of 200000 bytes from each of some places
+    // on, in pieces.
+    fn cost(alloc: Global, places: &[u64], size: usize, length: usize) -> Result<(u32, usize), Fail>
+        requires { 0 < size }
+    {
+        let plan = Plan::new(0, Wrong::Fails);
+        let disk = Disk::new(alloc);
+        let system = (
+            Mount {
+                plan: &plan,
+                disk: &disk,
+            },
+            alloc,
+        );
+        let text = vec![in alloc; 7u8; 200000]?;
+        let mut buf = vec![in alloc; 0u8; length]?;
+        let mut file = DepotFile::open(&system, ".", FileKind::Primary)?;
+        file.write(&system, 0, &text)?;
+        let (calls, moved) = (plan.calls.get(), plan.moved.get());
+        for place in places {
+            pieces(&mut file, *place, size, &mut buf)?;
+        }
+        Ok((
+            plan.calls.get().saturating_sub(calls),
+            plan.moved.get().saturating_sub(moved),
+        ))
+    }
+
+    #[test]
+    fn reads_ahead_only_in_sequence(rt: HostRuntime) -> Result<(), Fail> {
+        let alloc = rt.alloc();
+        assert_eq!(rt; cost(alloc, &[0], 3000, 200000)?, (8, 200000));
+        assert_eq!(rt; cost(alloc, &[0, 100000, 50000], 3000, 3000)?, (3, 9000));
+        assert_eq!(rt; cost(alloc, &[0, 100000, 50000], 3000, 9000)?, (6, 27000));
+        assert_eq!(rt;
+            cost(alloc, &[0, 60000, 120000], 60000, 60000)?,
+            (3, 180000)
+        );
         Ok(())
     }
 }

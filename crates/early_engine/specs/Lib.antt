@@ -1,7 +1,6 @@
 pub mod Core
 pub mod Early
 pub mod Engines
-pub mod Files
 pub mod Gone
 pub mod Grids
 pub mod Making
@@ -10,7 +9,6 @@ pub mod Passes
 pub mod Report
 pub mod Reported
 pub mod Runs
-pub mod Shown
 pub mod Starts
 pub mod Steps
 pub mod Turns

@@ -7,6 +7,7 @@ mod begin;
 mod block;
 mod column;
 mod engine;
+mod feed;
 mod iteration;
 mod kind;
 mod laws;
@@ -17,7 +18,6 @@ mod part;
 mod room;
 mod run;
 mod turning;
-mod visit;
 mod write;
 
 pub use engine::Engine;

@@ -1,5 +1,4 @@
 pub mod Built
-pub mod Chosen
 pub mod Copied
 pub mod Counted
 pub mod Growing

@@ -1,11 +1,11 @@
 // An engine over a grid in memory, call by call. What runs write is tried through the top call.
 ghost use Rattle.std.specs.Prelude.{IsSome};
 
-use crate::commands::{FIVE, FOUR_BUILT};
+use crate::commands::FIVE;
 use crate::rows::{HERE, check_over, row_of};
 use early_engine::{Engine, Mode, Phase, RunOptions, Show, Turn};
 use grid_format::read_head;
-use lumos_depot::{Depot, FileKind, MemDepot, MemSink, Sink};
+use lumos_depot::{Depot, MemDepot, MemSink, Sink};
 use lumos_report::{Ending, Why};
 use programs::Components;
 use std::alloc::Global;
@@ -70,8 +70,7 @@ fn run_once<D: Depot, O: Sink>(alloc: Global, depot: &mut D, out: &mut O) -> Opt
     Some(ending)
 }
 
-// Two values of 9 bytes and two sums of 8 for each of the three vertices of a chunk are 102 bytes, and two chunks in memory with two
-// values a vertex are 108 more. That is 210.
+// For each of five vertices an engine holds two values of 9 bytes and a sum of 8, and then the three sums of a part: 154 bytes.
 // Over the edges from 0 to 4 and from 3 to 1, vertex 4 moves in iteration 1, and then none does.
 #[test]
 fn an_engine_goes_on_until_nothing_moves(rt: HostRuntime) -> Result<(), Fail> {
@@ -86,7 +85,7 @@ fn an_engine_goes_on_until_nothing_moves(rt: HostRuntime) -> Result<(), Fail> {
         why: Why::Still,
     });
     let steps = (
-        210,
+        154,
         Phase::Fresh,
         Phase::Going,
         Phase::Stopped,
@@ -100,88 +99,5 @@ fn an_engine_goes_on_until_nothing_moves(rt: HostRuntime) -> Result<(), Fail> {
         why: Why::Limit,
     };
     assert_eq!(rt; run_once(rt.alloc(), &mut depot, &mut out), Some(once));
-    Ok(())
-}
-
-// Begins components over the grid in a directory under a budget, makes an iteration where one is asked for, and answers how many
-// bytes the engine holds.
-fn go_under<D: Depot, O: Sink>(
-    alloc: Global,
-    depot: &mut D,
-    out: &mut O,
-    budget: u64,
-    goes_on: bool,
-) -> Option<u64>
-    requires { IsSome (D.attached depot.old) }
-{
-    let Ok(info) = read_head(depot) else {
-        return None;
-    };
-    let options = RunOptions {
-        iterations: 5,
-        mode: Mode::Fed,
-        show: Show::All,
-        budget,
-    };
-    let Ok(mut engine) = Engine::open(alloc, depot, info, Components, options) else {
-        return None;
-    };
-    let held = engine.held();
-    let Ok(()) = engine.begin(depot, out) else {
-        return None;
-    };
-    if !goes_on {
-        return Some(held);
-    }
-    let Ok(turn) = engine.turn(depot, out) else {
-        return None;
-    };
-    if turn != Turn::Going {
-        return None;
-    }
-    Some(held)
-}
-
-// A budget; how many bytes are held; how many bytes of Values the beginning stores, and as many it takes to show them; how many
-// iteration 1 takes of Values and stores there.
-const BUDGETS: [(u64, u64, u64, u64, u64); 3] = [
-    (68, 68, 36, 162, 36),
-    (104, 104, 18, 72, 18),
-    (140, 140, 0, 0, 0),
-];
-
-// What of Values and of Sums was taken and stored.
-fn moved(depot: &MemDepot) -> [u64; 4] {
-    [
-        depot.taken_of(FileKind::Values),
-        depot.stored_of(FileKind::Values),
-        depot.taken_of(FileKind::Sums),
-        depot.stored_of(FileKind::Sums),
-    ]
-}
-
-// Early sums are stored whatever the budget is: 8 bytes for each of four vertices.
-#[test]
-fn a_budget_decides_what_an_engine_moves(rt: HostRuntime) -> Result<(), Fail> {
-    for (budget, held, begun, taken, stored) in BUDGETS {
-        for (goes_on, bytes) in [
-            (false, [begun, begun, 0, 0]),
-            (true, [begun + taken, begun + stored, 0, 32]),
-        ] {
-            let mut depot = MemDepot::new(rt.alloc(), &[]).ok().expect(&rt, "memory");
-            let built = row_of(&rt, &HERE, FOUR_BUILT);
-            check_over(&rt, rt.alloc(), &built, &mut depot)?;
-            assert!(rt; depot.path().is_some());
-            let mut out = MemSink::new(rt.alloc(), 1000, &[])
-                .ok()
-                .expect(&rt, "memory");
-            assert_eq!(rt;
-                go_under(rt.alloc(), &mut depot, &mut out, budget, goes_on),
-                Some(held),
-                "{budget}"
-            );
-            assert_eq!(rt; moved(&depot), bytes, "{budget}");
-        }
-    }
     Ok(())
 }

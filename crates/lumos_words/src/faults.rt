@@ -51,10 +51,6 @@ pub enum OptionName {
     Share,
     /// `--from`
     From,
-    /// `--seed`
-    Seed,
-    /// `--edges`
-    Edges,
 }
 
 /// What is wrong with the words, and with which option.
@@ -106,7 +102,5 @@ pub(crate) fn name_of(option: OptionName) -> &'static str
         OptionName::Unit => "unit",
         OptionName::Share => "share",
         OptionName::From => "from",
-        OptionName::Seed => "seed",
-        OptionName::Edges => "edges",
     }
 }

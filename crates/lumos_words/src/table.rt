@@ -9,7 +9,6 @@ pub(crate) enum CommandWord {
     Run,
     Build,
     Replay,
-    Sample,
 }
 
 // An option: its name without hyphens, whether it is a flag, and a column for each command that says whether it has it.
@@ -20,7 +19,6 @@ pub(crate) struct OptionRow {
     pub run: bool,
     pub build: bool,
     pub replay: bool,
-    pub sample: bool,
 }
 
 impl OptionRow {
@@ -32,19 +30,17 @@ impl OptionRow {
             CommandWord::Run => self.run,
             CommandWord::Build => self.build,
             CommandWord::Replay => self.replay,
-            CommandWord::Sample => self.sample,
         }
     }
 }
 
-static OPTIONS: [OptionRow; 16] = [
+static OPTIONS: [OptionRow; 14] = [
     OptionRow {
         name: "dir",
         is_flag: false,
         run: true,
         build: true,
         replay: false,
-        sample: true,
     },
     OptionRow {
         name: "parts",
@@ -52,7 +48,6 @@ static OPTIONS: [OptionRow; 16] = [
         run: true,
         build: true,
         replay: true,
-        sample: true,
     },
     OptionRow {
         name: "iterations",
@@ -60,7 +55,6 @@ static OPTIONS: [OptionRow; 16] = [
         run: true,
         build: false,
         replay: false,
-        sample: true,
     },
     OptionRow {
         name: "budget",
@@ -68,7 +62,6 @@ static OPTIONS: [OptionRow; 16] = [
         run: true,
         build: true,
         replay: false,
-        sample: true,
     },
     OptionRow {
         name: "vertices",
@@ -76,7 +69,6 @@ static OPTIONS: [OptionRow; 16] = [
         run: true,
         build: true,
         replay: true,
-        sample: true,
     },
     OptionRow {
         name: "max-edges",
@@ -84,7 +76,6 @@ static OPTIONS: [OptionRow; 16] = [
         run: true,
         build: true,
         replay: false,
-        sample: false,
     },
     OptionRow {
         name: "max-bytes",
@@ -92,7 +83,6 @@ static OPTIONS: [OptionRow; 16] = [
         run: true,
         build: true,
         replay: false,
-        sample: false,
     },
     OptionRow {
         name: "both",
@@ -100,7 +90,6 @@ static OPTIONS: [OptionRow; 16] = [
         run: true,
         build: true,
         replay: true,
-        sample: true,
     },
     OptionRow {
         name: "mode",
@@ -108,7 +97,6 @@ static OPTIONS: [OptionRow; 16] = [
         run: true,
         build: false,
         replay: false,
-        sample: true,
     },
     OptionRow {
         name: "show",
@@ -116,7 +104,6 @@ static OPTIONS: [OptionRow; 16] = [
         run: true,
         build: false,
         replay: false,
-        sample: true,
     },
     OptionRow {
         name: "unit",
@@ -124,7 +111,6 @@ static OPTIONS: [OptionRow; 16] = [
         run: true,
         build: false,
         replay: true,
-        sample: true,
     },
     OptionRow {
         name: "share",
@@ -132,7 +118,6 @@ static OPTIONS: [OptionRow; 16] = [
         run: true,
         build: false,
         replay: true,
-        sample: true,
     },
     OptionRow {
         name: "from",
@@ -140,7 +125,6 @@ static OPTIONS: [OptionRow; 16] = [
         run: true,
         build: false,
         replay: true,
-        sample: true,
     },
     OptionRow {
         name: "seeds",
@@ -148,23 +132,6 @@ static OPTIONS: [OptionRow; 16] = [
         run: true,
         build: false,
         replay: true,
-        sample: true,
-    },
-    OptionRow {
-        name: "seed",
-        is_flag: false,
-        run: false,
-        build: false,
-        replay: false,
-        sample: true,
-    },
-    OptionRow {
-        name: "edges",
-        is_flag: false,
-        run: false,
-        build: false,
-        replay: false,
-        sample: true,
     },
 ];
 
@@ -183,7 +150,6 @@ pub(crate) fn command_of(word: &str) -> Option<CommandWord>
         "run" => Some(CommandWord::Run),
         "build" => Some(CommandWord::Build),
         "replay" => Some(CommandWord::Replay),
-        "sample" => Some(CommandWord::Sample),
         _ => None,
     }
 }

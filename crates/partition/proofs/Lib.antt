@@ -1,4 +1,3 @@
 pub mod BlockLemmas
 pub mod BucketLemmas
-pub mod FittingLemmas
 pub mod RangeLemmas

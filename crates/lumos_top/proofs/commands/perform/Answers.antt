@@ -7,9 +7,6 @@ use Rattle.lumos_top.proofs.commands.perform.Goals as goal
 pub returns-in-Run-clause-done : goal.returns-in-Run-clause-done
 returns-in-Run-clause-done g c = asked_for (texts_of c.args.words.now) _ _ _ (c.in-Ok.ensures.answer ∙ ap Ok c.in-Run.is) c.run_within.ensures.done
 
-pub returns-in-Sample-clause-done : goal.returns-in-Sample-clause-done
-returns-in-Sample-clause-done g c = asked_for (texts_of c.args.words.now) _ _ _ (c.in-Ok.ensures.answer ∙ ap Ok c.in-Sample.is) (c.sample_within.ensures.done (g.I.Source.left c.args.input.now))
-
 pub returns-in-Replay-clause-done : goal.returns-in-Replay-clause-done
 returns-in-Replay-clause-done g c =
     asked_for (texts_of c.args.words.now) _ _ _ (c.in-Ok.ensures.answer ∙ ap Ok c.in-Replay.is) (c.replay.ensures.done (g.D.Depot.holds c.args.depot.now) (g.D.Depot.taken c.args.depot.now) (g.D.Depot.stored c.args.depot.now))

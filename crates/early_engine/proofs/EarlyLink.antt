@@ -1,4 +1,4 @@
--- The partial sums of an iteration that was fed ahead are the early sums.
+-- The partial sums of an iteration that was fed ahead are those of the early edges.
 use Rattle.std.proofs.Common.{◌≡◌, ◌==◌, ◌&&◌, ℕ, suc, ◌+◌, ◌<◌, ◌≤◌, ◌^◌, nat_lt, Bool, true, false, List, map, filter, length, All, Option, Some, None, refl, sym, ap, ◌∙◌, arith, IsPermutation}
 use Rattle.std.specs.List.{AllByRecursion}
 use Rattle.std.specs.Option.{is_some}
@@ -8,7 +8,7 @@ use Rattle.lumos_base.specs.Records.{IsEdge}
 use Rattle.lumos_base.specs.declared.records.Edge.{Edge}
 use Rattle.lumos_law.specs.Joins.{join_from}
 use Rattle.lumos_law.specs.Program.{Program, Lawful}
-use Rattle.lumos_law.specs.Sync.{edges_into, fed_sum, sum_at, values, IsChunk}
+use Rattle.lumos_law.specs.Sync.{edges_into, sum_at, values, IsChunk}
 use Rattle.lumos_law.proofs.ChunkLemmas.{chunk_same}
 use Rattle.lumos_law.proofs.OrderLemmas.{sum_at-permutation}
 use Rattle.lumos_law.proofs.SumLemmas.{all-filter}
@@ -22,7 +22,7 @@ use Rattle.flight_core.specs.Events.{State, is_done, is_final, mark_of, sums_of}
 use Rattle.flight_core.specs.Sound.{was_fed, IsSound}
 use Rattle.flight_core.proofs.EventLemmas.{not_both}
 use Rattle.flight_core.proofs.FedEdgeLemmas.{all-passed, all_map, by_class, drop_units}
-use Rattle.early_engine.specs.Early.{early_sum}
+use Rattle.early_engine.specs.Early.{early_edges}
 
 and_wide : (a b c : Bool) → (c ≡ true → a ≡ true) → ((a && b) && c) ≡ (b && c)
 and_wide true b c h = refl
@@ -98,7 +98,7 @@ module _ {V S : Type 0} {ValueIn : V → Type 0} {SumIn : S → Type 0} (p : Pro
       by_mark (Some false) is done = all_map _ GivesUnit (λ e unit off. unit) (block edges c i j) (recursion_from_All _ _ (sound.silent t i j is))
 
   -- the partial sums of the next iteration, where exactly the rows above the diagonal are done
-  pub early_chunk : IsChunk (early_sum p edges c (values p edges t)) (first_vertex n c j) (sums_of p n c s (suc t) j)
+  pub early_chunk : IsChunk (sum_at p (early_edges edges c j) (values p edges t)) (first_vertex n c j) (sums_of p n c s (suc t) j)
   early_chunk =
       let held = sound.partial t j inside open_column in
       let known : (u : ℕ) → u < 2 ^ 32 → ValueIn (values p edges t u) = λ u h. values_in p laws edges t u few edges_in h in
@@ -107,5 +107,4 @@ module _ {V S : Type 0} {ValueIn : V → Type 0} {SumIn : S → Type 0} (p : Pro
       let v = first_vertex n c j + k in
       let part : part_at c v ≡ j = (of_part n c j v (record { low = omega arith; high = omega (arith, below, held.long) })).1 in
       fed_below p laws edges (values p edges t) known edges_in c j v part j (λ e. fed_row (part_at c e.source.0)) (λ e on. fed_low (part_at c e.source.0) on)
-      (all-passed _ _ (λ e. nat_lt (part_at c e.source.0) j) (λ e each low off hit. each low (eq-eqb (part_at c e.target.0) j (ap (part_at c) hit ∙ part)) off) edges classes)
-      ∙ sym (ap (λ m. fed_sum p (column edges c m m) (values p edges t) v p.unit) part)) held.chunk
+      (all-passed _ _ (λ e. nat_lt (part_at c e.source.0) j) (λ e each low off hit. each low (eq-eqb (part_at c e.target.0) j (ap (part_at c) hit ∙ part)) off) edges classes)) held.chunk

@@ -1,10 +1,10 @@
 -- The grid that a depot holds, and its table.
-use Rattle.std.proofs.Common.{◌≡◌, ◌<◌, ◌≤◌, ◌+◌, ◌*◌, ℕ, List, length, take, Option, Some, None, Result, Err, sym, ap, ◌∙◌, subst, arith}
+use Rattle.std.proofs.Common.{◌≡◌, ◌<◌, ◌≤◌, ◌+◌, ◌*◌, ℕ, true, List, length, Option, Some, None, Result, Err, refl, sym, ap, ◌∙◌, subst, arith}
 use Rattle.std.specs.Prelude.{All, IfSome}
 use Rattle.lumos_base.specs.declared.records.Edge.{Edge}
 use Rattle.lumos_depot.specs.Files.{Same}
 use Rattle.lumos_depot.specs.declared.depot.FileKind.{FileKind}
-use Rattle.lumos_depot.specs.declared.depot.FileKind.TheVariants.{Meta, Primary, Secondary, Info}
+use Rattle.lumos_depot.specs.declared.depot.FileKind.TheVariants.{Meta, Primary, Secondary, Info, Values, Sums}
 use Rattle.partition.specs.Blocks.{block}
 use Rattle.partition.specs.Parts.{Cut, chunk_of, part_range, IsInPart}
 use Rattle.partition.specs.declared.records.VertexRange.{VertexRange}
@@ -23,7 +23,11 @@ use Rattle.column_stream.proofs.BlockLemmas.{block_streamed, low_streamed}
 use Rattle.column_stream.specs.Blocks.{IsStreamed}
 use Rattle.lumos_depot.proofs.StepLemmas.{told_more, told_same, told_some}
 use Rattle.value_files.specs.Records.{IsIntact}
-use Rattle.early_engine.specs.Grids.{HasBlocks, IsLaid, IsOfBlock, IsOnGrid, bytes_in, ends_of, place_in}
+use Rattle.windows.specs.Kept.{Stays}
+use Rattle.windows.specs.Windows.{Coding, IsSameRoom, Told, WindowState}
+use Rattle.windows.proofs.FrameLemmas.{room_none, sized_same, stays_same}
+use Rattle.early_engine.specs.Files.{takes_of}
+use Rattle.early_engine.specs.Grids.{FitsFiles, HasBlocks, IsLaid, IsOfBlock, IsOnGrid, bytes_in, cursor_at, ends_of, place_in}
 use Rattle.early_engine.specs.Passes.{file_of}
 use Rattle.early_engine.specs.Steps.{GoesThrough}
 use Rattle.lumos_base.specs.Records.{IsEdge}
@@ -59,9 +63,6 @@ abbrev cursor_of : FileKind → ℕ → ℕ → VertexRange → VertexRange → 
 cursor_of file place count sources targets = record { file = file; place = place; left = count; ends = record { sources = sources; targets = targets } }
 
 -- the cursor at the beginning of a block in the file from which iterations of a kind read
-abbrev pub cursor_at : Kind → Cut → BlockCounts → ℕ → ℕ → CursorState
-cursor_at kind cut table i j = record { file = file_of kind; place = place_in kind table i j; left = count_at table i j; ends = ends_of cut i j }
-
 pub begins_at : (kind : Kind) (cut : Cut) (table : BlockCounts) (i j : ℕ) (cursor : CursorState) (file : FileKind) (place count : ℕ) (sources targets : VertexRange) → cursor ≡ record { file = file; place = place; left = count; ends = record { sources = sources; targets = targets } } →
     file ≡ file_of kind → place ≡ place_in kind table i j → count ≡ count_at table i j → sources ≡ part_range cut.vertices (chunk_of cut) i → targets ≡ part_range cut.vertices (chunk_of cut) j → cursor ≡ cursor_at kind cut table i j
 begins_at kind cut table i j cursor file place count sources targets is read at counted from into = is ∙ (λ t. cursor_of (read t) (at t) (counted t) (from t) (into t))
@@ -100,9 +101,9 @@ module _ (kind : Kind) (edges : List Edge) (cut : Cut) (table : BlockCounts) (to
   file_told : told cursor.file ≡ Some bytes_are
   file_told = ap (λ (k : CursorState). told k.file) begins ∙ told_in kind told (grid edges cut.vertices cut.parts) is.files
 
-  -- it gives the block's edges
-  pub edges_streamed : (out : List Edge) → IfSome (told cursor.file) (λ bytes. out ≡ edges_left cursor bytes) → out ≡ block edges (chunk_of cut) i j
-  edges_streamed out had = told_some (told cursor.file) (λ bytes. out ≡ edges_left cursor bytes) bytes_are file_told had ∙ given.is_block
+  -- what is known of the edges that it gives, is known of the block
+  pub streamed : (P : List Edge → Type 0) → IfSome (told cursor.file) (λ bytes. P (edges_left cursor bytes)) → P (block edges (chunk_of cut) i j)
+  streamed P had = subst P given.is_block (told_some (told cursor.file) (λ bytes. P (edges_left cursor bytes)) bytes_are file_told had)
 
   -- and finds no word outside its range
   pub never_damaged : {T : Type 0} (fault : FileFault) (result : Result T FileFault) → result ≡ Err fault → IfSome (told cursor.file) (λ bytes. FaultIs result (fault_left cursor bytes)) → IsIntact fault
@@ -115,19 +116,19 @@ module _ (kind : Kind) (edges : List Edge) (cut : Cut) (table : BlockCounts) (to
       by_fault (Damaged file place found) h none = absurd (let e : Some (Damaged file place found) ≡ None = sym h ∙ none in cc)
 
 -- a block's records lie inside that file, and it isn't long
-pub block_inside : (kind : Kind) (cut : Cut) (table : BlockCounts) (room i j : ℕ) → IsLaid cut table room → i < cut.parts → j < cut.parts → GoesThrough kind i j → place_in kind table i j + 12 * count_at table i j ≤ bytes_in kind table
-block_inside Full cut table room i j laid row column low = primary_inside table i j
-block_inside Fed cut table room i j laid row column low = low_inside table i j low (omega (arith, laid.parts))
+pub block_inside : (kind : Kind) (cut : Cut) (table : BlockCounts) (i j : ℕ) → IsLaid cut table → i < cut.parts → j < cut.parts → GoesThrough kind i j → place_in kind table i j + 12 * count_at table i j ≤ bytes_in kind table
+block_inside Full cut table i j laid row column low = primary_inside table i j
+block_inside Fed cut table i j laid row column low = low_inside table i j low (omega (arith, laid.parts))
 
-pub bytes_few : (kind : Kind) (cut : Cut) (table : BlockCounts) (room : ℕ) → IsLaid cut table room → bytes_in kind table ≤ 25769803776
-bytes_few Full cut table room laid = omega (arith, laid.few)
-bytes_few Fed cut table room laid = omega (arith, laid.few, low_few table)
+pub bytes_few : (kind : Kind) (cut : Cut) (table : BlockCounts) → IsLaid cut table → bytes_in kind table ≤ 25769803776
+bytes_few Full cut table laid = omega (arith, laid.few)
+bytes_few Fed cut table laid = omega (arith, laid.few, low_few table)
 
 -- a cursor at a block stays inside that file
-pub cursor_inside : (kind : Kind) (cut : Cut) (table : BlockCounts) (room i j : ℕ) (told : FileKind → Option (List ℕ)) (cursor : CursorState) → IsLaid cut table room → i < cut.parts → j < cut.parts → GoesThrough kind i j
+pub cursor_inside : (kind : Kind) (cut : Cut) (table : BlockCounts) (i j : ℕ) (told : FileKind → Option (List ℕ)) (cursor : CursorState) → IsLaid cut table → i < cut.parts → j < cut.parts → GoesThrough kind i j
     → HasBlocks table told → cursor ≡ cursor_at kind cut table i j → IfSome (told cursor.file) (IsInside cursor)
-cursor_inside kind cut table room i j told cursor laid row column low has begins =
-    let fits = block_inside kind cut table room i j laid row column low in
+cursor_inside kind cut table i j told cursor laid row column low has begins =
+    let fits = block_inside kind cut table i j laid row column low in
     subst (λ (k : CursorState). IfSome (told k.file) (IsInside k)) (sym begins)
     (told_more (told (file_of kind)) (λ file. bytes_in kind table ≤ length file) (IsInside (cursor_at kind cut table i j)) (λ file long. omega (arith, fits, long)) (has kind))
 
@@ -138,3 +139,22 @@ blocks_same table old new same has kind = told_same (old (file_of kind)) (new (f
 -- a damaged record is one of the block
 pub of_block : (kind : Kind) (cut : Cut) (table : BlockCounts) (i j : ℕ) (cursor : CursorState) (fault : FileFault) → cursor ≡ cursor_at kind cut table i j → IsDamage cursor.file cursor.ends cursor.place cursor.left fault → IsOfBlock kind cut table i j fault
 of_block kind cut table i j cursor fault begins damage = subst (λ (k : CursorState). IsDamage k.file k.ends k.place k.left fault) begins damage
+
+-- an iteration of a kind takes the blocks of its file
+pub takes_blocks : (kind : Kind) → takes_of kind (file_of kind) ≡ true
+takes_blocks Full = refl
+takes_blocks Fed = refl
+
+module _ {V S : Type 0} (coding : Coding V S) where
+  -- nothing changed but the files, which are the same
+  pub stays_told : (w : WindowState V S) (before after : Told) → Same before after → Stays coding w before w after
+  stays_told w before after same = stays_same coding w w before after (room_none w) refl refl same
+
+  -- the windows that a step leaves fit the same files
+  pub fits_stays : (cut : Cut) (table : BlockCounts) (old new : WindowState V S) (before after : Told) → IsSameRoom old new → Same before after → FitsFiles coding cut table old before → FitsFiles coding cut table new after
+  fits_stays cut table old new before after room same fits = record {
+    cut_is = room.cut ∙ fits.cut_is;
+    laid = fits.laid;
+    blocks = blocks_same table before after same fits.blocks;
+    sized = sized_same coding old new before after room (same Values) (same Sums) fits.sized;
+  }

@@ -1,49 +1,37 @@
 -- An iteration that is made up to a column, and with the next one.
-use Rattle.std.proofs.Common.{◌≡◌, ℕ, suc, ◌+◌, ◌-◌, ◌<◌, ◌≤◌, ◌^◌, Bool, true, List, length, take, Option, Some, None, Result, Ok, Err, find, option_map, refl, sym, ap, ◌∙◌, subst, arith}
+use Rattle.std.proofs.Common.{◌≡◌, ◌≢◌, ◌⊎◌, inl, inr, ℕ, suc, ◌+◌, ◌-◌, ◌<◌, ◌≤◌, ◌%◌, Bool, List, length, set, Option, Some, None, find, option_map, refl, sym, ap, ◌∙◌, subst, arith}
 use Rattle.std.specs.List.{range_with_len}
 use Rattle.std.specs.Option.{option_or}
-use Rattle.std.proofs.lemmas.List.{length-take, take_all}
-use Rattle.std.proofs.lemmas.List.Elements.{recursion_from_All}
+use Rattle.std.proofs.lemmas.Bool.{cases_eq, lt-ltb, ltb-true}
 use Rattle.lumos_base.specs.Records.{vertex_of}
 use Rattle.lumos_base.specs.declared.records.Edge.{Edge}
 use Rattle.lumos_base.specs.declared.records.Vertex.{Vertex}
 use Rattle.lumos_depot.specs.declared.depot.FileKind.{FileKind}
-use Rattle.lumos_law.specs.Program.{Program, Lawful}
-use Rattle.lumos_law.specs.Sync.{sum_at, values, IsChunk}
-use Rattle.lumos_law.proofs.ChunkLemmas.{chunk_append, chunk_same}
-use Rattle.lumos_law.proofs.ValueLemmas.{values_in}
-use Rattle.partition.specs.Parts.{Cut, chunk_of, first_vertex, part_length, IsInPart}
-use Rattle.partition.proofs.RangeLemmas.{cover_once, parts_suffice}
+use Rattle.lumos_law.specs.Program.{Program}
+use Rattle.lumos_law.specs.Sync.{is_over, moved_count, next_values, sum_at, values}
+use Rattle.partition.specs.Parts.{Cut, chunk_of, first_vertex, part_length}
+use Rattle.partition.proofs.RangeLemmas.{parts_suffice}
 use Rattle.flight_core.specs.Finish.{finish_of, joined_end}
 use Rattle.flight_core.specs.declared.steps.Finish.{Finish}
-use Rattle.flight_core.proofs.ColumnLemmas.{column-sum}
 use Rattle.flight_core.proofs.FinishLemmas.{finish_join}
+use Rattle.windows.specs.Kept.{Keeps, StaysBut}
+use Rattle.windows.specs.Windows.{Coding, Told, WindowState, chunk_count, chunk_first}
+use Rattle.windows.proofs.FrameLemmas.{but_keeps}
+use Rattle.windows.proofs.PartLemmas.{part_ends}
+use Rattle.flight_core.specs.Events.{prior}
 use Rattle.grid_format.specs.Tables.{BlockCounts}
 use Rattle.io_account.specs.declared.Counts.{Counts}
-use Rattle.early_engine.specs.Gone.{AreOf, HasGone}
-use Rattle.early_engine.specs.Grids.{IsOnGrid}
-use Rattle.std.specs.Prelude.{IfOk, MatchResult}
-use Rattle.early_engine.specs.Making.{IsMade, IsUnmade}
-use Rattle.early_engine.specs.Passes.{Place, feeds_ahead, kind_of, passes, size_at, tally_of}
-use Rattle.early_engine.specs.declared.iteration.Stop.{Stop}
-use Rattle.early_engine.specs.declared.options.Mode.{Mode}
-use Rattle.early_engine.specs.Early.{early_sum}
-use Rattle.early_engine.proofs.HotLemmas.{told_of}
-use Rattle.early_engine.specs.Steps.{AreHot, IsFedTo, IsMadeBelow, IsPassed, came_of, needs_by}
 use Rattle.lumos_report.specs.declared.records.Kind.{Kind}
-use Rattle.std.proofs.lemmas.Slice.{take-put_mid}
-use borrow.Rule.Slice.PartMut.{put_mid}
-
-module _ {V S : Type 0} (p : Program V S) where
-  -- of no part
-  pub made_none : (edges : List Edge) (cut : Cut) (t : ℕ) (after : List V) (moved : ℕ) → moved ≡ 0 → IsMadeBelow p edges cut 0 t after moved
-  made_none edges cut t after moved none_moved =
-      let first : 0 ≡ first_vertex cut.vertices (chunk_of cut) 0 = omega arith in
-      record {
-        chunk = subst (λ (n : ℕ). IsChunk (values p edges (suc t)) 0 (take n after)) first (record { at = λ d k below. absurd (omega arith) });
-        count = none_moved ∙ ap (λ (n : ℕ). (came_of p edges t n).moved) first;
-        none = ap (λ (n : ℕ). (came_of p edges t n).over) (sym first);
-      }
+use Rattle.early_engine.specs.Early.{AreHot, IsKept}
+use Rattle.early_engine.specs.Gone.{AreOf, Beside, HasGone, loads_by}
+use Rattle.early_engine.specs.Grids.{IsOnGrid}
+use Rattle.early_engine.specs.Making.{IsMade}
+use Rattle.early_engine.specs.Passes.{Place, feeds_ahead, is_hot, kind_of, needed, passes, size_at, tally_of}
+use Rattle.early_engine.specs.Steps.{AreEarly, IsMadeBelow, came_of}
+use Rattle.early_engine.specs.declared.options.Mode.{Mode}
+use Rattle.early_engine.proofs.HotLemmas.{told_of}
+use Rattle.early_engine.proofs.KindLemmas.{fed_before}
+use Rattle.early_engine.proofs.FlagLemmas.{marked}
 
 module _ {V S : Type 0} (p : Program V S) (state : ℕ → V) (sum : ℕ → S) where
   -- the first vertices, and the next ones: together
@@ -87,55 +75,95 @@ all_parts cut j some all =
     let suffice = parts_suffice cut.vertices cut.parts some in
     ap (λ (k : ℕ). first_vertex cut.vertices (chunk_of cut) k) all ∙ omega arith
 
-module _ {V S : Type 0} (p : Program V S) where
-  -- all parts make the iteration
-  pub made_all : (edges : List Edge) (cut : Cut) (ahead : Bool) (j t : ℕ) (after : List V) (early : List S) (flags : List Bool) (counts : Counts) → 0 < cut.parts → j ≡ cut.parts → length after ≡ cut.vertices
-      → IsMadeBelow p edges cut j t after counts.moved → AreHot p edges cut j (suc t) flags
-      → (ahead ≡ true → IsChunk (early_sum p edges (chunk_of cut) (values p edges (suc t))) 0 early) → IsPassed p edges cut ahead t after early flags counts
-  made_all edges cut ahead j t after early flags counts some all long made hot sums =
-      let whole = all_parts cut j some all in
+-- an iteration and the next aren't both even, nor both odd
+pub turns : (t u : ℕ) → t ≡ suc u → u % 2 ≢ t % 2
+turns t u is same = omega arith
+
+module _ {V S : Type 0} (coding : Coding V S) (p : Program V S) (edges : List Edge) (cut : Cut) where
+  -- of no part
+  pub made_none : (t : ℕ) (windows : WindowState V S) (told : Told) (were are : List Bool) (moved : ℕ) → moved ≡ 0 → ((i : ℕ) → i < cut.parts → Keeps coding windows told t i (values p edges t)) → AreHot p edges cut t were
+      → IsMadeBelow coding p edges cut 0 t windows told were are moved
+  made_none t windows told were are moved none_moved holds were_hot =
+      let first : 0 ≡ first_vertex cut.vertices (chunk_of cut) 0 = omega arith in
       record {
-        holds = subst (IsChunk (values p edges (suc t)) 0) (take_all (first_vertex cut.vertices (chunk_of cut) j) after (omega arith)) made.chunk;
-        early = sums;
-        active = λ i below. hot i (omega arith);
-        moved = made.count ∙ ap (λ (n : ℕ). (came_of p edges t n).moved) whole;
-        none = over_none _ (sym (ap (λ (n : ℕ). (came_of p edges t n).over) whole) ∙ made.none);
+        ready = record {
+          holds = holds;
+          made = λ i low is. absurd (let under = ltb-true i 0 is in omega arith);
+          were_hot = were_hot;
+          are_hot = λ i low is. absurd (let under = ltb-true i 0 is in omega arith);
+        };
+        count = none_moved ∙ ap (λ (n : ℕ). (came_of p edges t n).moved) first;
+        none = ap (λ (n : ℕ). (came_of p edges t n).over) (sym first);
       }
 
--- an iteration by one of its kind is the one of the run
-pub passed_made : {V S : Type 0} (p : Program V S) (edges : List Edge) (cut : Cut) (table : BlockCounts) (told : FileKind → Option (List ℕ)) (mode : Mode) (limit t before after : ℕ) (kind : Kind) (ahead : Bool) (items : List V) (early : List S) (were are : List Bool) (result : Result Counts Stop)
-    → kind ≡ kind_of mode (suc t) → ahead ≡ feeds_ahead mode limit (suc t) → IsOnGrid edges cut table told → AreHot p edges cut cut.parts t were
-    → ((size : Place → ℕ) (need : Place → Bool) → ((i j : ℕ) → i < cut.parts → j < cut.parts → AreOf table were are ahead size need i j) → IfOk result (HasGone kind size need (passes kind cut.parts) before after))
-    → MatchResult result (IsPassed p edges cut ahead t items early are) (IsUnmade p edges cut t) → MatchResult result (IsMade p edges cut mode limit t items early are) (IsUnmade p edges cut t)
-passed_made p edges cut table told mode limit t before after kind ahead items early were are (Ok counts) kind_is ahead_is grid hot gone passed =
-    let size = size_at edges (chunk_of cut) in
-    let counted = (gone size (needs_by p edges cut ahead t) (λ i j row column. told_of p edges cut table told were are ahead t (suc t) i j refl row column grid hot passed.active)).counted in
-    record {
-      kept = record { holds = passed.holds; ahead = λ on. passed.early (ahead_is ∙ on); active = passed.active };
-      counted = counted ∙ (λ i. tally_of (kind_is i) size (needs_by p edges cut (ahead_is i) t) (passes (kind_is i) cut.parts) (passed.moved i));
-      none = passed.none;
+  module _ (j u t : ℕ) (old new : WindowState V S) (before after : Told) (were flags : List Bool) (moved : ℕ) (end : Finish) (same : old.cut ≡ cut)
+      (ends : end ≡ finish_of p (values p edges u) (sum_at p edges (values p edges u)) (chunk_first old j) (chunk_count old j)) (made : IsMadeBelow coding p edges cut j u old before were flags moved) where
+    here : end ≡ finish_of p (values p edges u) (sum_at p edges (values p edges u)) (first_vertex cut.vertices (chunk_of cut) j) (part_length cut.vertices (chunk_of cut) j)
+    here = ends ∙ ap (λ (c : Cut). finish_of p (values p edges u) (sum_at p edges (values p edges u)) (first_vertex c.vertices (chunk_of c) j) (part_length c.vertices (chunk_of c) j)) same
+
+    -- the least vertex that is over
+    pub over_in_part : (v : Vertex) → j < cut.parts → end.over ≡ Some v → find (λ x. p.over x (values p edges u x) (sum_at p edges (values p edges u) x)) (range_with_len 0 cut.vertices) ≡ Some v.0
+    over_in_part v low over =
+        over_found p (values p edges u) (sum_at p edges (values p edges u)) (first_vertex cut.vertices (chunk_of cut) j) (part_length cut.vertices (chunk_of cut) j) (first_vertex cut.vertices (chunk_of cut) j)
+        (first_vertex cut.vertices (chunk_of cut) (j + 1)) cut.vertices end v refl (part_ends cut.vertices (chunk_of cut) j) (omega arith) here made.none over
+
+    -- one part more is made
+    pub made_more : t ≡ suc u → j < cut.parts → cut.parts ≤ 256 → length flags ≡ 256 → StaysBut coding t j old before new after → Keeps coding new after t j (next_values p edges (values p edges u)) → end.over ≡ None
+        → IsMadeBelow coding p edges cut (j + 1) u new after were (set flags j end.hot) (moved + end.moved)
+    made_more next low few long stays keeps none = record {
+      ready = record {
+        holds = λ i row. but_keeps coding t j old new before after u i (values p edges u) stays (inl (turns t u next)) (made.ready.holds i row);
+        made = λ i row is. by_part i row (ltb-true i (j + 1) is) (cases_eq i j);
+        were_hot = made.ready.were_hot;
+        are_hot = λ i row is.
+            let under = ltb-true i (j + 1) is in
+            marked flags (λ k. is_hot p edges cut.vertices cut.parts (suc u) k) j end.hot (omega (arith, low, few, long)) (ap (λ (f : Finish). f.hot) here)
+            (λ k under. made.ready.are_hot k (omega (arith, under, low)) (lt-ltb k j under)) i under;
+      };
+      count = ap (λ (k : ℕ). k + end.moved) made.count
+          ∙ moved_next p (values p edges u) (sum_at p edges (values p edges u)) (first_vertex cut.vertices (chunk_of cut) j) (part_length cut.vertices (chunk_of cut) j) (first_vertex cut.vertices (chunk_of cut) j)
+          (first_vertex cut.vertices (chunk_of cut) (j + 1)) end refl (part_ends cut.vertices (chunk_of cut) j) here;
+      none = over_next p (values p edges u) (sum_at p edges (values p edges u)) (first_vertex cut.vertices (chunk_of cut) j) (part_length cut.vertices (chunk_of cut) j) (first_vertex cut.vertices (chunk_of cut) j)
+          (first_vertex cut.vertices (chunk_of cut) (j + 1)) end refl (part_ends cut.vertices (chunk_of cut) j) here made.none ∙ none;
     }
-passed_made p edges cut table told mode limit t before after kind ahead items early were are (Err stop) kind_is ahead_is grid hot gone unmade = unmade
+      where
+        by_part : (i : ℕ) → i < cut.parts → i < j + 1 → (i ≡ j) ⊎ (i ≡ j → ⊥) → Keeps coding new after (suc u) i (values p edges (suc u))
+        by_part i row under (inl is) = subst (λ (k : ℕ). Keeps coding new after (suc u) k (values p edges (suc u))) (sym is) (subst (λ (n : ℕ). Keeps coding new after n j (values p edges (suc u))) next keeps)
+        by_part i row under (inr apart) = but_keeps coding t j old new before after (suc u) i (values p edges (suc u)) stays (inr apart) (made.ready.made i row (lt-ltb i j (omega arith)))
 
--- a chunk put behind those before it
-pub chunk_put : {X : Type 0} (state : ℕ → X) (xs new : List X) (first size start past : ℕ) → first ≡ start → past ≡ first + length new → first ≤ length xs
-    → IsChunk state 0 (take start xs) → IsChunk state start new → IsChunk state 0 (take past (put_mid first size xs new))
-chunk_put state xs new first size start past is grown inside front here =
-    let kept : IsChunk state 0 (take first xs) = subst (λ f. IsChunk state 0 (take f xs)) (sym is) front in
-    subst (IsChunk state 0) (sym (take-put_mid first size xs new past grown inside))
-    (chunk_append state 0 (take first xs) new first (omega (arith, length-take {A = _} first xs)) kept (subst (λ f. IsChunk state f new) (sym is) here))
+  -- all parts make the iteration
+  pub made_all : (j t : ℕ) (windows : WindowState V S) (told : Told) (were are : List Bool) (moved : ℕ) → 0 < cut.parts → j ≡ cut.parts → IsMadeBelow coding p edges cut j t windows told were are moved
+      → ((i : ℕ) → i < cut.parts → Keeps coding windows told (suc t) i (values p edges (suc t))) × (AreHot p edges cut (suc t) are × ((moved ≡ moved_count p edges cut.vertices t) × (find (is_over p edges t) (range_with_len 0 cut.vertices) ≡ None)))
+  made_all j t windows told were are moved some all made =
+      let whole = all_parts cut j some all in (
+        λ i row. made.ready.made i row (lt-ltb i j (omega (arith, row, all))),
+        (
+          λ i row. made.ready.are_hot i row (lt-ltb i j (omega (arith, row, all))),
+          (made.count ∙ ap (λ (n : ℕ). (came_of p edges t n).moved) whole, over_none _ (sym (ap (λ (n : ℕ). (came_of p edges t n).over) whole) ∙ made.none)),
+        ),
+      )
 
-module _ {V S : Type 0} {ValueIn : V → Type 0} {SumIn : S → Type 0} (p : Program V S) (laws : Lawful ValueIn SumIn p) where
-  -- a column's sums are those of all edges
-  pub column_chunk : (edges : List Edge) (cut : Cut) (table : BlockCounts) (told : FileKind → Option (List ℕ)) (j t : ℕ) (sums : List S) → IsOnGrid edges cut table told → length sums ≡ part_length cut.vertices (chunk_of cut) j
-      → IsFedTo p edges cut j cut.parts (values p edges t) sums
-      → IsChunk (sum_at p edges (values p edges t)) (first_vertex cut.vertices (chunk_of cut) j) sums
-  column_chunk edges cut table told j t sums grid long chunk =
-      let n = cut.vertices in
-      let first = first_vertex n (chunk_of cut) j in
-      let some = grid.limits.some_parts in
-      let numbers = recursion_from_All _ edges grid.numbers in
-      let known : (u : ℕ) → u < 2 ^ 32 → ValueIn (values p edges t u) = λ u h. values_in p laws edges t u grid.limits.few numbers h in
-      chunk_same _ _ first sums (λ k h.
-      let inside : IsInPart n (chunk_of cut) j (first + k) = record { low = omega arith; high = omega arith } in
-      column-sum p laws edges (values p edges t) n cut.parts j (first + k) some ((cover_once n cut.parts some).alone j (first + k) inside).1 known numbers grid.limits.ends) chunk
+  -- the early sums that an iteration of a kind goes on from
+  pub early_first : (mode : Mode) (limit u t : ℕ) (kind : Kind) (ahead : Bool) (windows : WindowState V S) (told : Told) (flags : List Bool) → t ≡ suc u → t ≤ limit → kind ≡ kind_of mode t → IsKept coding p edges cut mode limit u windows told flags
+      → AreEarly coding p edges cut kind ahead 0 u windows told
+  early_first mode limit u t kind ahead windows told flags next few sort kept = record {
+    given = λ fed i from low. kept.ahead (fed_before mode limit u (sym (ap (kind_of mode) next) ∙ sym sort ∙ fed) (omega (arith, next, few))) i low;
+    left = λ on i low. absurd (omega arith);
+  }
+
+  -- the iteration of the run is made
+  pub iteration_made : (table : BlockCounts) (grid_told now : Told) (mode : Mode) (limit u t j : ℕ) (kind : Kind) (ahead : Bool) (windows begun : WindowState V S) (were flags : List Bool) (counts : Counts) (beside : Beside) (load : ℕ → ℕ) (taken stored taken_now stored_now : FileKind → ℕ)
+      → t ≡ suc u → kind ≡ kind_of mode t → ahead ≡ feeds_ahead mode limit t → IsOnGrid edges cut table grid_told → j ≡ cut.parts → AreHot p edges cut u were
+      → IsMadeBelow coding p edges cut j u windows now were flags counts.moved → AreEarly coding p edges cut kind ahead j u windows now
+      → ((size : Place → ℕ) (need : Place → Bool) (loads : Place → ℕ) → ((i k : ℕ) → i < cut.parts → k < cut.parts → AreOf table load were flags ahead size need loads i k) → HasGone kind size need loads (passes kind cut.parts) beside taken stored taken_now stored_now counts)
+      → IsMade p coding edges cut mode limit u windows now flags counts
+  iteration_made table grid_told now mode limit u t j kind ahead windows begun were flags counts beside load taken stored taken_now stored_now next sort ahead_is grid all hot made early gone =
+      let whole = made_all j u windows now were flags counts.moved grid.limits.some_parts all made in
+      let size = size_at edges (chunk_of cut) in
+      let hots = is_hot p edges cut.vertices cut.parts in
+      let counted = (gone size (needed hots ahead t) (loads_by load (hots (prior t)) (hots t) ahead) (λ i k row column. told_of p edges cut table grid_told load were flags ahead u t i k next row column grid hot whole.1.0)).counted in
+      record {
+        kept = record { holds = whole.0; ahead = λ on i low. early.left (ahead_is ∙ ap (feeds_ahead mode limit) next ∙ on) i (omega (arith, low, all)); active = whole.1.0 };
+        counted = counted ∙ (λ i. tally_of ((sort ∙ ap (kind_of mode) next) i) size (needed hots ((ahead_is ∙ ap (feeds_ahead mode limit) next) i) (next i)) (passes ((sort ∙ ap (kind_of mode) next) i) cut.parts) (whole.1.1.0 i));
+        none = whole.1.1.1;
+      }

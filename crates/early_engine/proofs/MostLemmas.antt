@@ -1,9 +1,9 @@
 -- The most bytes that an iteration takes.
-use Rattle.std.proofs.Common.{◌≡◌, ◌≤◌, ℕ, ◌+◌, sum, take, ap, ◌∙◌, arith, add-one}
+use Rattle.std.proofs.Common.{◌≡◌, ◌≤◌, ℕ, ◌+◌, sum, take, refl, ap, ◌∙◌, arith, add-one}
 use Rattle.std.specs.Prelude.{sum_by}
 use Rattle.std.specs.List.{range_with_len}
 use Rattle.std.proofs.lemmas.List.Sums.{sum_by-take-le, sum_by_push}
-use Rattle.lumos_depot.specs.Files.{SameBut}
+use Rattle.lumos_depot.specs.Steps.{SameOff}
 use Rattle.lumos_depot.specs.declared.depot.FileKind.{FileKind}
 use Rattle.lumos_depot.specs.declared.depot.FileKind.TheVariants.{Primary, Secondary}
 use Rattle.partition.proofs.BucketLemmas.{range_more}
@@ -12,6 +12,7 @@ use Rattle.grid_format.proofs.RangeLemmas.{sum-range-le}
 use Rattle.grid_format.proofs.TableLemmas.{rows_behind}
 use Rattle.lumos_report.specs.declared.records.Kind.{Kind}
 use Rattle.lumos_report.specs.declared.records.Kind.TheVariants.{Full, Fed}
+use Rattle.early_engine.specs.Files.{takes_of}
 use Rattle.early_engine.specs.Grids.{bytes_in}
 use Rattle.early_engine.specs.Passes.{file_of, kind_of}
 use Rattle.early_engine.specs.Runs.{most_by, most_taken}
@@ -30,15 +31,15 @@ pub columns_few : (table : BlockCounts) (n : ℕ) → columns_have table n ≤ s
 columns_few table n = sum_by-take-le (λ x. x) table.counts (block_place table.parts 0 n)
 
 -- an iteration takes no more than all blocks of its kind
-pub most_one : (read kind : Kind) (table : BlockCounts) (old new : FileKind → ℕ) → new (file_of read) ≤ old (file_of read) + bytes_in read table → SameBut (file_of read) old new → new (file_of kind) ≤ old (file_of kind) + most_by kind read table
+pub most_one : (read kind : Kind) (table : BlockCounts) (old new : FileKind → ℕ) → new (file_of read) ≤ old (file_of read) + bytes_in read table → SameOff (takes_of read) old new → new (file_of kind) ≤ old (file_of kind) + most_by kind read table
 most_one Full Full table old new most same = most
 most_one Fed Fed table old new most same = most
-most_one Full Fed table old new most same = let stays = same Secondary (λ e. let d : Secondary ≡ Primary = e in cc) in omega (arith, stays)
-most_one Fed Full table old new most same = let stays = same Primary (λ e. let d : Primary ≡ Secondary = e in cc) in omega (arith, stays)
+most_one Full Fed table old new most same = let stays = same Secondary refl in omega (arith, stays)
+most_one Fed Full table old new most same = let stays = same Primary refl in omega (arith, stays)
 
 -- one iteration more
 pub most_more : (kind : Kind) (mode m : Mode) (table t : BlockCounts) (done limit : ℕ) (first old new : FileKind → ℕ) → m ≡ mode → t ≡ table → done + 1 ≤ limit → old (file_of kind) ≤ first (file_of kind) + most_taken kind mode table done
-    → new (file_of (kind_of m (done + 1))) ≤ old (file_of (kind_of m (done + 1))) + bytes_in (kind_of m (done + 1)) t → SameBut (file_of (kind_of m (done + 1))) old new
+    → new (file_of (kind_of m (done + 1))) ≤ old (file_of (kind_of m (done + 1))) + bytes_in (kind_of m (done + 1)) t → SameOff (takes_of (kind_of m (done + 1))) old new
     → (new (file_of kind) ≤ first (file_of kind) + most_taken kind mode table (done + 1)) × (new (file_of kind) ≤ first (file_of kind) + most_taken kind mode table limit)
 most_more kind mode m table t done limit first old new same_mode same_table low before most same =
     let one = most_one (kind_of m (done + 1)) kind t old new most same in

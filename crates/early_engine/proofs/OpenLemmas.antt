@@ -1,7 +1,7 @@
 -- The files behind a head that was accepted.
-use Rattle.std.proofs.Common.{◌≡◌, ◌==◌, ◌⊎◌, inl, inr, ◌<◌, ◌≤◌, ℕ, ◌+◌, ◌*◌, Bool, true, false, List, length, sum, Option, Some, None, Ok, Err, is_some, refl, sym, ap, subst, ◌∙◌, arith}
+use Rattle.std.proofs.Common.{◌≡◌, ◌==◌, ◌≤◌, ℕ, ◌*◌, Bool, true, false, List, length, sum, Option, Some, None, Ok, Err, is_some, refl, sym, ap, subst, ◌∙◌, arith}
 use Rattle.std.specs.Prelude.{IfSome, if◌then◌else◌}
-use Rattle.std.proofs.lemmas.Bool.{cases_eq, eqb-true}
+use Rattle.std.proofs.lemmas.Bool.{eqb-true}
 use Rattle.lumos_depot.specs.declared.depot.FileKind.{FileKind}
 use Rattle.lumos_depot.specs.declared.depot.FileKind.TheVariants.{Meta, Primary, Secondary, Info}
 use Rattle.grid_format.specs.Checks.{GridFiles, ◌>>=◌, counted, fields_of, files_sized, head_of, in_meta, sized, table_of}
@@ -13,7 +13,7 @@ use Rattle.grid_format.specs.declared.head.GridFault.{GridFault}
 use Rattle.grid_format.proofs.Accepted.{bind_ok, told_files}
 use Rattle.lumos_report.specs.declared.records.Kind.{Kind}
 use Rattle.lumos_report.specs.declared.records.Kind.TheVariants.{Full, Fed}
-use Rattle.early_engine.specs.Grids.{bytes_in, HasBlocks}
+use Rattle.early_engine.specs.Grids.{HasBlocks, bytes_in}
 use Rattle.early_engine.specs.Passes.{file_of}
 
 sized_ok : (kind : FileKind) (want found : ℕ) (u : Unit {0}) → sized kind want found ≡ Ok u → found ≡ want
@@ -54,15 +54,15 @@ none_told None P h = tt
 none_told (Some file) P h = absurd (cc)
 
 module _ (told : FileKind → Option (List ℕ)) (all : (j k : FileKind) → is_some (told j) ≡ is_some (told k)) (info : GridInfo) (accepted : (files : GridFiles) → Holds told files → head_of files ≡ Ok info) where
-  infos_by : (meta : Option (List ℕ)) → told Meta ≡ meta → IfSome (told Info) (λ file. 12 * info.vertices ≤ length file)
-  infos_by None is = none_told (told Info) (λ file. 12 * info.vertices ≤ length file) (all Info Meta ∙ ap is_some is)
+  infos_by : (meta : Option (List ℕ)) → told Meta ≡ meta → IfSome (told Info) (λ file. length file ≡ 12 * info.vertices)
+  infos_by None is = none_told (told Info) (λ file. length file ≡ 12 * info.vertices) (all Info Meta ∙ ap is_some is)
   infos_by (Some meta) is =
       let there = told_files told all meta is in
       let infos = (files_fit there.0 info (accepted there.0 there.1)).infos in
-      subst (λ o. IfSome o (λ file. 12 * info.vertices ≤ length file)) (sym there.1.info_file) (omega arith)
+      subst (λ o. IfSome o (λ file. length file ≡ 12 * info.vertices)) (sym there.1.info_file) infos
 
-  -- an Info that is told has the records of all vertices
-  pub infos_fit : IfSome (told Info) (λ file. 12 * info.vertices ≤ length file)
+  -- an Info that is told has the records of all vertices, and nothing more
+  pub infos_fit : IfSome (told Info) (λ file. length file ≡ 12 * info.vertices)
   infos_fit = infos_by (told Meta) refl
 
   module _ (table : BlockCounts) (parts : table.parts ≡ info.parts) (whole : sum table.counts ≡ info.edges) (counted_so : (files : GridFiles) → Holds told files → table.counts ≡ counts_of info.parts files.meta) where
@@ -83,11 +83,3 @@ module _ (told : FileKind → Option (List ℕ)) (all : (j k : FileKind) → is_
     -- a Primary and a Secondary that are told have the records of the table's blocks
     pub blocks_fit : HasBlocks table told
     blocks_fit kind = blocks_by (told Meta) kind refl
-
--- a bound of the numbers before i and of that at i
-pub up_to : (f : ℕ → ℕ) (i k most : ℕ) → k < i + 1 → (k < i → f k ≤ most) → f i ≤ most → f k ≤ most
-up_to f i k most low before here = by (cases_eq k i)
-  where
-    by : (k ≡ i) ⊎ (k ≡ i → ⊥) → f k ≤ most
-    by (inl same) = subst (λ (n : ℕ). f n ≤ most) (sym same) here
-    by (inr apart) = before (omega arith)

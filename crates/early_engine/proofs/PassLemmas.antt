@@ -1,5 +1,5 @@
 -- One block more among those that an iteration goes through.
-use Rattle.std.proofs.Common.{◌≡◌, ◌==◌, ◌<◌, ℕ, ◌+◌, ◌*◌, ◌&&◌, Bool, true, false, not, cond, nat_lt, List, [], ◌∷◌, ◌++◌, flat_map, length, map, count_by, sum_by, refl, sym, ap, ap₂, ◌∙◌, subst, arith, add-one, append-nil, length-append}
+use Rattle.std.proofs.Common.{◌≡◌, ◌==◌, ◌<◌, ℕ, ◌+◌, ◌*◌, ◌&&◌, Bool, true, false, not, cond, nat_lt, List, [], ◌∷◌, ◌++◌, flat_map, length, map, count_by, sum_by, refl, sym, ap, ap₂, ◌∙◌, arith, add-one, append-nil, length-append}
 use Rattle.std.specs.List.{range_with_len}
 use Rattle.std.proofs.lemmas.Bool.{eq-eqb, lt-ltb, ne_eqb}
 use Rattle.std.proofs.lemmas.Grind.{flat_map-append}
@@ -10,9 +10,9 @@ use Rattle.partition.proofs.BucketLemmas.{range_more}
 use Rattle.io_account.specs.declared.Counts.{Counts}
 use Rattle.lumos_report.specs.declared.records.Kind.{Kind}
 use Rattle.lumos_report.specs.declared.records.Kind.TheVariants.{Full, Fed}
-use Rattle.lumos_depot.specs.Steps.{RoseBy}
-use Rattle.lumos_depot.proofs.StepLemmas.{rose_whole}
-use Rattle.early_engine.specs.Gone.{HasGone}
+use Rattle.lumos_depot.specs.declared.depot.FileKind.{FileKind}
+use Rattle.early_engine.proofs.BytesLemmas.{beside_same, both, moved_none, moved_then, of_values}
+use Rattle.early_engine.specs.Gone.{Beside, HasGone, HasMoved, and_loads, loads_of, none_beside}
 use Rattle.early_engine.specs.Passes.{Place, bytes_of, place_at, places, places_below, reads, tally_of}
 use Rattle.early_engine.specs.Steps.{with_read}
 
@@ -103,26 +103,28 @@ module _ (size : Place → ℕ) (need : Place → Bool) where
   abbrev is_empty : Place → Bool
   is_empty b = size b == 0
 
+  -- what some blocks that are read and others add up to
+  pub read_both : (f : Place → ℕ) (some bs : List Place) → sum_by f (reads size need (some ++ bs)) ≡ sum_by f (reads size need some) + sum_by f (reads size need bs)
+  read_both f some bs = ap (sum_by f) (filter-append is_read some bs) ∙ sum_by-append f (reads size need some) (reads size need bs)
+
   -- the bytes of some blocks and of others
   pub bytes_both : (some bs : List Place) → bytes_of size need (some ++ bs) ≡ bytes_of size need some + bytes_of size need bs
-  bytes_both some bs =
-      ap (sum_by (λ x. 12 * size x)) (filter-append is_read some bs)
-      ∙ sum_by-append (λ x. 12 * size x) (reads size need some) (reads size need bs)
+  bytes_both some bs = read_both (λ x. 12 * size x) some bs
 
-  one_block : (b : Place) (is : Bool) → is_read b ≡ is → bytes_of size need (b ∷ []) ≡ cond is (12 * size b) 0
-  one_block b is same = one_sum (is_read b) (λ x. 12 * size x) b ∙ ap (λ t. cond t (12 * size b) 0) same
+  sum_block : (f : Place → ℕ) (b : Place) (is : Bool) → is_read b ≡ is → sum_by f (reads size need (b ∷ [])) ≡ cond is (f b) 0
+  sum_block f b is same = one_sum (is_read b) f b ∙ ap (λ (t : Bool). cond t (f b) 0) same
 
-  -- those of a block that is read
-  pub bytes_read : (b : Place) → 0 < size b → need b ≡ true → bytes_of size need (b ∷ []) ≡ 12 * size b
-  bytes_read b some is = one_block b true (ap₂ (λ (x : Bool) (y : Bool). x && y) (some_edges (size b) some) is)
+  -- what a block that is read adds
+  pub sum_read : (f : Place → ℕ) (b : Place) → 0 < size b → need b ≡ true → sum_by f (reads size need (b ∷ [])) ≡ f b
+  sum_read f b some is = sum_block f b true (ap₂ (λ (x : Bool) (y : Bool). x && y) (some_edges (size b) some) is)
 
-  -- of one that isn't needed
-  pub bytes_skipped : (b : Place) → need b ≡ false → bytes_of size need (b ∷ []) ≡ 0
-  bytes_skipped b is = one_block b false (ap (λ x. nat_lt 0 (size b) && x) is ∙ no_and (nat_lt 0 (size b)))
+  -- one that isn't needed
+  pub sum_skipped : (f : Place → ℕ) (b : Place) → need b ≡ false → sum_by f (reads size need (b ∷ [])) ≡ 0
+  sum_skipped f b is = sum_block f b false (ap (λ x. nat_lt 0 (size b) && x) is ∙ no_and (nat_lt 0 (size b)))
 
-  -- of one without edges
-  pub bytes_empty : (b : Place) → size b ≡ 0 → bytes_of size need (b ∷ []) ≡ 0
-  bytes_empty b none = one_block b false (ap (λ x. x && need b) (no_edges (size b) none))
+  -- one without edges
+  pub sum_empty : (f : Place → ℕ) (b : Place) → size b ≡ 0 → sum_by f (reads size need (b ∷ [])) ≡ 0
+  sum_empty f b none = sum_block f b false (ap (λ x. x && need b) (no_edges (size b) none))
 
   read_more : (bs : List Place) (b : Place) (is : Bool) → is_read b ≡ is → length (reads size need (bs ++ b ∷ [])) ≡ length (reads size need bs) + cond is 1 0
   read_more bs b is same =
@@ -175,50 +177,44 @@ module _ (size : Place → ℕ) (need : Place → Bool) where
       ∙ one_empty_more kind (length (reads size need bs)) (count_by is_skipped bs) (count_by is_empty bs) moved
       ∙ ap with_empty (as_counted kind bs moved)
 
-  -- more values that moved
-  pub tally_moved : (kind : Kind) (bs : List Place) (moved more : ℕ) → record (tally_of kind size need bs moved) { moved = (tally_of kind size need bs moved).moved + more } ≡ tally_of kind size need bs (moved + more)
-  tally_moved Full bs moved more = refl
-  tally_moved Fed bs moved more = refl
-
   -- an iteration went through one block more
-  gone_more : (kind : Kind) (bs : List Place) (b : Place) (begun mid after n : ℕ) (old new : Counts) → new.moved ≡ old.moved → new ≡ tally_of kind size need (bs ++ b ∷ []) old.moved → bytes_of size need (b ∷ []) ≡ n → RoseBy mid after n
-      → HasGone kind size need bs begun mid old → HasGone kind size need (bs ++ b ∷ []) begun after new
-  gone_more kind bs b begun mid after n old new still counted bytes rose gone = record {
-    counted = counted ∙ ap (tally_of kind size need (bs ++ b ∷ [])) (sym still);
-    taken = rose_whole begun mid after (bytes_of size need bs) n (bytes_of size need (bs ++ b ∷ [])) (bytes_both bs (b ∷ []) ∙ ap (λ (k : ℕ). bytes_of size need bs + k) bytes) gone.taken rose;
-  }
+  gone_more : (kind : Kind) (loads : Place → ℕ) (bs : List Place) (b : Place) (beside : Beside) (t s t1 s1 t2 s2 : FileKind → ℕ) (n m : ℕ) (old new : Counts) → new.moved ≡ old.moved → new ≡ tally_of kind size need (bs ++ b ∷ []) old.moved → bytes_of size need (b ∷ []) ≡ n
+      → loads_of size need loads (b ∷ []) ≡ m → HasMoved kind n (of_values m) t1 s1 t2 s2 → HasGone kind size need loads bs beside t s t1 s1 old → HasGone kind size need loads (bs ++ b ∷ []) beside t s t2 s2 new
+  gone_more kind loads bs b beside t s t1 s1 t2 s2 n m old new still counted bytes load step gone =
+      let some = loads_of size need loads bs in
+      let all = loads_of size need loads (bs ++ b ∷ []) in
+      let more : all ≡ some + m = read_both loads bs (b ∷ []) ∙ ap (λ (k : ℕ). some + k) load in
+      let values : all + beside.values_in ≡ some + beside.values_in + m = omega (arith, more) in
+      let out : beside.values_out ≡ beside.values_out + 0 = omega arith in
+      let sums_in : beside.sums_in ≡ beside.sums_in + 0 = omega arith in
+      let sums_out : beside.sums_out ≡ beside.sums_out + 0 = omega arith in
+      record {
+        counted = counted ∙ ap (tally_of kind size need (bs ++ b ∷ [])) (sym still);
+        moved = moved_then kind (bytes_of size need bs) n (bytes_of size need (bs ++ b ∷ [])) (and_loads some beside) (of_values m) (and_loads all beside) t s t1 s1 t2 s2
+            (bytes_both bs (b ∷ []) ∙ ap (λ (k : ℕ). bytes_of size need bs + k) bytes) (beside_same (and_loads all beside) (both (and_loads some beside) (of_values m)) values out sums_in sums_out) gone.moved step;
+      }
 
-  pub gone_read : (kind : Kind) (bs : List Place) (b : Place) (begun mid after : ℕ) (old new : Counts) → 0 < size b → need b ≡ true → new ≡ with_read kind old → new.moved ≡ old.moved → RoseBy mid after (12 * size b)
-      → HasGone kind size need bs begun mid old → HasGone kind size need (bs ++ b ∷ []) begun after new
-  gone_read kind bs b begun mid after old new some is counted still rose gone =
-      gone_more kind bs b begun mid after (12 * size b) old new still (counted ∙ ap (with_read kind) gone.counted ∙ sym (tally_read kind bs b old.moved some is)) (bytes_read b some is) rose gone
+  pub gone_read : (kind : Kind) (loads : Place → ℕ) (bs : List Place) (b : Place) (beside : Beside) (t s t1 s1 t2 s2 : FileKind → ℕ) (old new : Counts) → 0 < size b → need b ≡ true → new ≡ with_read kind old → new.moved ≡ old.moved
+      → HasMoved kind (12 * size b) (of_values (loads b)) t1 s1 t2 s2 → HasGone kind size need loads bs beside t s t1 s1 old → HasGone kind size need loads (bs ++ b ∷ []) beside t s t2 s2 new
+  gone_read kind loads bs b beside t s t1 s1 t2 s2 old new some is counted still step gone =
+      gone_more kind loads bs b beside t s t1 s1 t2 s2 (12 * size b) (loads b) old new still (counted ∙ ap (with_read kind) gone.counted ∙ sym (tally_read kind bs b old.moved some is)) (sum_read (λ x. 12 * size x) b some is) (sum_read loads b some is) step gone
 
-  pub gone_skipped : (kind : Kind) (bs : List Place) (b : Place) (begun mid : ℕ) (old new : Counts) → 0 < size b → need b ≡ false → new ≡ with_skipped old
-      → HasGone kind size need bs begun mid old → HasGone kind size need (bs ++ b ∷ []) begun mid new
-  gone_skipped kind bs b begun mid old new some is counted gone =
-      gone_more kind bs b begun mid mid 0 old new (ap (λ (k : Counts). k.moved) counted) (counted ∙ ap with_skipped gone.counted ∙ sym (tally_skipped kind bs b old.moved some is)) (bytes_skipped b is) (λ low. omega arith) gone
+  pub gone_skipped : (kind : Kind) (loads : Place → ℕ) (bs : List Place) (b : Place) (beside : Beside) (t s t1 s1 : FileKind → ℕ) (old new : Counts) → 0 < size b → need b ≡ false → new ≡ with_skipped old
+      → HasGone kind size need loads bs beside t s t1 s1 old → HasGone kind size need loads (bs ++ b ∷ []) beside t s t1 s1 new
+  gone_skipped kind loads bs b beside t s t1 s1 old new some is counted gone =
+      gone_more kind loads bs b beside t s t1 s1 t1 s1 0 0 old new (ap (λ (k : Counts). k.moved) counted) (counted ∙ ap with_skipped gone.counted ∙ sym (tally_skipped kind bs b old.moved some is))
+      (sum_skipped (λ x. 12 * size x) b is) (sum_skipped loads b is) (moved_none kind t1 s1) gone
 
-  pub gone_empty : (kind : Kind) (bs : List Place) (b : Place) (begun mid : ℕ) (old new : Counts) → size b ≡ 0 → new ≡ with_empty old
-      → HasGone kind size need bs begun mid old → HasGone kind size need (bs ++ b ∷ []) begun mid new
-  gone_empty kind bs b begun mid old new none counted gone =
-      gone_more kind bs b begun mid mid 0 old new (ap (λ (k : Counts). k.moved) counted) (counted ∙ ap with_empty gone.counted ∙ sym (tally_empty kind bs b old.moved none)) (bytes_empty b none) (λ low. omega arith) gone
+  pub gone_empty : (kind : Kind) (loads : Place → ℕ) (bs : List Place) (b : Place) (beside : Beside) (t s t1 s1 : FileKind → ℕ) (old new : Counts) → size b ≡ 0 → new ≡ with_empty old
+      → HasGone kind size need loads bs beside t s t1 s1 old → HasGone kind size need loads (bs ++ b ∷ []) beside t s t1 s1 new
+  gone_empty kind loads bs b beside t s t1 s1 old new none counted gone =
+      gone_more kind loads bs b beside t s t1 s1 t1 s1 0 0 old new (ap (λ (k : Counts). k.moved) counted) (counted ∙ ap with_empty gone.counted ∙ sym (tally_empty kind bs b old.moved none))
+      (sum_empty (λ x. 12 * size x) b none) (sum_empty loads b none) (moved_none kind t1 s1) gone
 
   -- through none yet
-  pub gone_none : (kind : Kind) (begun : ℕ) (counts : Counts) → counts ≡ record { primary = 0; secondary = 0; skipped = 0; empty = 0; moved = 0 } → HasGone kind size need [] begun begun counts
-  gone_none kind begun counts none = record { counted = none ∙ as_none kind ∙ ap (tally_of kind size need []) (sym (ap (λ (k : Counts). k.moved) none)); taken = λ low. omega arith }
+  pub gone_none : (kind : Kind) (loads : Place → ℕ) (t s : FileKind → ℕ) (counts : Counts) → counts ≡ record { primary = 0; secondary = 0; skipped = 0; empty = 0; moved = 0 } → HasGone kind size need loads [] none_beside t s t s counts
+  gone_none kind loads t s counts none = record { counted = none ∙ as_none kind ∙ ap (tally_of kind size need []) (sym (ap (λ (k : Counts). k.moved) none)); moved = moved_none kind t s }
     where
       as_none : (kind : Kind) → ◌≡◌ {A = Counts} (record { primary = 0; secondary = 0; skipped = 0; empty = 0; moved = 0 }) (tally_of kind size need [] 0)
       as_none Full = refl
       as_none Fed = refl
-
-  -- as many more values moved
-  pub gone_moved : (kind : Kind) (bs : List Place) (begun after more : ℕ) (old new : Counts) → new ≡ record old { moved = old.moved + more } → HasGone kind size need bs begun after old → HasGone kind size need bs begun after new
-  gone_moved kind bs begun after more old new added gone = record {
-    counted = added ∙ ap (λ (k : Counts). record k { moved = k.moved + more }) gone.counted ∙ tally_moved kind bs old.moved more
-        ∙ ap (tally_of kind size need bs) (sym (ap (λ (k : Counts). k.moved) added));
-    taken = gone.taken;
-  }
-
-  -- the same blocks
-  pub gone_as : (kind : Kind) (bs cs : List Place) (begun after : ℕ) (counts : Counts) → bs ≡ cs → HasGone kind size need bs begun after counts → HasGone kind size need cs begun after counts
-  gone_as kind bs cs begun after counts same gone = subst (λ (l : List Place). HasGone kind size need l begun after counts) same gone

@@ -1,93 +1,69 @@
--- The bytes that the iterations of a run take of Primary and Secondary.
-use Rattle.std.proofs.Common.{◌≡◌, ◌≢◌, ◌≤◌, ℕ, ◌+◌, List, Option, refl, ap, ◌∙◌, subst, arith, add-one}
-use Rattle.std.specs.Prelude.{sum_by}
-use Rattle.std.specs.List.{range_with_len}
+-- What the iterations of a run take and store of each file.
+use Rattle.std.proofs.Common.{◌≡◌, ◌≤◌, ℕ, ◌+◌, ◌||◌, Bool, true, false, List, Option, Result, Ok, Err, refl, ap, ◌∙◌, subst, arith, add-one}
+use Rattle.std.specs.Prelude.{IfOk, sum_by}
+use Rattle.std.specs.List.{list_any, range_with_len}
 use Rattle.std.proofs.lemmas.List.Sums.{sum_by_push}
-use Rattle.lumos_depot.specs.Files.{SameBut}
+use Rattle.lumos_depot.specs.Steps.{Touches}
 use Rattle.lumos_depot.specs.declared.depot.FileKind.{FileKind}
-use Rattle.lumos_depot.specs.declared.depot.FileKind.TheVariants.{Primary, Secondary, Info}
-use Rattle.partition.proofs.BucketLemmas.{range_more}
+use Rattle.lumos_depot.proofs.StepLemmas.{rose_then, rose_whole, touches_more, touches_then}
+use Rattle.lumos_report.specs.declared.records.Ending.{Ending}
 use Rattle.lumos_report.specs.declared.records.Kind.{Kind}
 use Rattle.lumos_report.specs.declared.records.Kind.TheVariants.{Full, Fed}
-use Rattle.lumos_depot.specs.Steps.{Reads, RoseBy}
-use Rattle.early_engine.specs.Passes.{file_of, kind_of, of_primary, of_secondary}
-use Rattle.early_engine.specs.Runs.{Streams}
-use Rattle.early_engine.specs.declared.options.Mode.{Mode}
+use Rattle.partition.proofs.BucketLemmas.{range_more}
+use Rattle.early_engine.specs.Files.{run_stores, run_takes, start_takes, stores_of, takes_of}
+use Rattle.early_engine.specs.Passes.{feeds_ahead, file_of, kind_of}
+use Rattle.early_engine.specs.Runs.{RoseAll}
+use Rattle.early_engine.specs.declared.options.RunFault.{RunFault}
+use Rattle.early_engine.specs.declared.options.RunOptions.{RunOptions}
+use Rattle.early_engine.proofs.FlagLemmas.{any_none}
 
-primary_apart : Primary ≢ Secondary
-primary_apart e = cc
-
-secondary_apart : Secondary ≢ Primary
-secondary_apart e = cc
-
-pub infos_apart : (kind : Kind) → Info ≢ file_of kind
-infos_apart Full e = let d : Info ≡ Primary = e in cc
-infos_apart Fed e = let d : Info ≡ Secondary = e in cc
-
--- an iteration takes so many bytes of the file from which it reads, and none of the other
-pub primary_rose : (kind : Kind) (n : ℕ) (old new : FileKind → ℕ) → RoseBy (old (file_of kind)) (new (file_of kind)) n → SameBut (file_of kind) old new → RoseBy (old Primary) (new Primary) (of_primary kind n)
-primary_rose Full n old new rose same = rose
-primary_rose Fed n old new rose same = λ low. let stays = same Primary primary_apart in omega (arith, stays)
-
-pub secondary_rose : (kind : Kind) (n : ℕ) (old new : FileKind → ℕ) → RoseBy (old (file_of kind)) (new (file_of kind)) n → SameBut (file_of kind) old new → RoseBy (old Secondary) (new Secondary) (of_secondary kind n)
-secondary_rose Full n old new rose same = λ low. let stays = same Secondary secondary_apart in omega (arith, stays)
-secondary_rose Fed n old new rose same = rose
-
--- what the first n iterations take, where iteration t takes `f t`
-abbrev pub taken_by : (ℕ → ℕ) → ℕ → ℕ
-taken_by f n = sum_by f (range_with_len 1 n)
-
-taken_more : (f : ℕ → ℕ) (n : ℕ) → taken_by f (n + 1) ≡ taken_by f n + f (n + 1)
-taken_more f n =
-    let next : 1 + n ≡ n + 1 = omega arith in
-    ap (taken_by f) (add-one n) ∙ ap (sum_by f) (range_more 1 n) ∙ sum_by_push f (range_with_len 1 n) (1 + n)
-    ∙ ap (λ (k : ℕ). taken_by f n + f k) next
-
-pub rose_first : (f : ℕ → ℕ) (n before : ℕ) → n ≡ 0 → RoseBy before before (taken_by f n)
-rose_first f n before none low = let all : taken_by f n ≡ 0 = ap (taken_by f) none in omega (arith, all)
+-- what the first n iterations move of each file, where iteration t moves `bytes t`
+abbrev pub moved_to : (ℕ → FileKind → ℕ) → ℕ → FileKind → ℕ
+moved_to bytes n kind = sum_by (λ t. bytes t kind) (range_with_len 1 n)
 
 -- one iteration more
-pub rose_more : (f : ℕ → ℕ) (t next before mid after : ℕ) → next ≡ t + 1 → RoseBy before mid (taken_by f t) → RoseBy mid after (f (t + 1)) → RoseBy before after (taken_by f next)
-rose_more f t next before mid after at first second low =
-    let two = second low in
-    let one = first (omega arith) in
-    let all : taken_by f next ≡ taken_by f t + f (t + 1) = ap (taken_by f) at ∙ taken_more f t in
-    omega arith
+sum_more : (f : ℕ → ℕ) (n : ℕ) → sum_by f (range_with_len 1 (n + 1)) ≡ sum_by f (range_with_len 1 n) + f (n + 1)
+sum_more f n =
+    let next : 1 + n ≡ n + 1 = omega arith in
+    ap (λ (k : ℕ). sum_by f (range_with_len 1 k)) (add-one n) ∙ ap (sum_by f) (range_more 1 n) ∙ sum_by_push f (range_with_len 1 n) (1 + n)
+    ∙ ap (λ (k : ℕ). sum_by f (range_with_len 1 n) + f k) next
+
+-- no iteration yet
+pub all_none : (bytes : ℕ → FileKind → ℕ) (n : ℕ) (before : FileKind → ℕ) → n ≡ 0 → RoseAll before before (moved_to bytes n)
+all_none bytes n before none kind low = let all : moved_to bytes n kind ≡ 0 = ap (λ (k : ℕ). moved_to bytes k kind) none in omega (arith, all)
+
+pub all_more : (bytes : ℕ → FileKind → ℕ) (t next : ℕ) (before mid after : FileKind → ℕ) → next ≡ t + 1 → RoseAll before mid (moved_to bytes t) → RoseAll mid after (bytes (t + 1)) → RoseAll before after (moved_to bytes next)
+all_more bytes t next before mid after at first second kind =
+    rose_whole (before kind) (mid kind) (after kind) (moved_to bytes t kind) (bytes (t + 1) kind) (moved_to bytes next kind) (ap (λ (k : ℕ). moved_to bytes k kind) at ∙ sum_more (λ u. bytes u kind) t) (first kind) (second kind)
+
+-- what the beginning moves, and the iterations behind it
+pub all_then : (m : FileKind → ℕ) (n : ℕ → FileKind → ℕ) (before mid after : FileKind → ℕ) (r : Result Ending RunFault) → RoseAll before mid m → IfOk r (λ end. RoseAll mid after (n end.iterations)) → IfOk r (λ end. RoseAll before after (λ kind. m kind + n end.iterations kind))
+all_then m n before mid after (Ok end) first second = λ kind. rose_then (before kind) (mid kind) (after kind) (m kind) (n end.iterations kind) (first kind) (second kind)
+all_then m n before mid after (Err fault) first second = tt
+
+-- the beginning takes nothing of the blocks
+pub start_apart : (kind : Kind) → start_takes (file_of kind) ≡ false
+start_apart Full = refl
+start_apart Fed = refl
+
+neither : (a b : Bool) → (a || b) ≡ false → (a ≡ false) × (b ≡ false)
+neither false b none = (refl, none)
+neither true b none = let e : true ≡ false = none in absurd (cc)
 
 module _ {D : Type 0} (h : D → FileKind → Option (List ℕ)) (t s : D → FileKind → ℕ) (f : D → ℕ) (a : D → Option (List ℕ)) where
-  pub streams_none : (mode : Mode) (limit : ℕ) (x : D) → Streams h t s f a mode limit x x
-  streams_none mode limit x = record { attached = refl; contents = λ kind. refl; taken = λ kind infos blocks. refl; stored = λ kind. refl; later = omega arith }
+  -- the beginning of a run touches files that the run touches
+  pub start_touches : (o : RunOptions) (x y : D) → Touches h t s f a start_takes (stores_of false) x y → Touches h t s f a (run_takes o.mode o.iterations) (run_stores o.mode o.iterations) x y
+  start_touches o x y touches =
+      touches_more h t s f a start_takes (stores_of false) (run_takes o.mode o.iterations) (run_stores o.mode o.iterations) x y
+      (λ kind none. (neither (start_takes kind) (list_any (λ u. takes_of (kind_of o.mode u) kind) (range_with_len 1 o.iterations)) none).0)
+      (λ kind none. (neither (stores_of false kind) (list_any (λ u. stores_of (feeds_ahead o.mode o.iterations u) kind) (range_with_len 1 o.iterations)) none).0) touches
 
-  pub streams_then : (mode : Mode) (limit : ℕ) (x y z : D) → Streams h t s f a mode limit x y → Streams h t s f a mode limit y z → Streams h t s f a mode limit x z
-  streams_then mode limit x y z first second = record {
-    attached = second.attached ∙ first.attached;
-    contents = λ kind. second.contents kind ∙ first.contents kind;
-    taken = λ kind infos blocks. second.taken kind infos blocks ∙ first.taken kind infos blocks;
-    stored = λ kind. second.stored kind ∙ first.stored kind;
-    later = let l = first.later in let m = second.later in omega arith;
-  }
-
-  -- one of the files was read
-  streams_of : (mode : Mode) (limit : ℕ) (from : FileKind) (x y : D) → ((kind : FileKind) → kind ≢ Info → ((u : ℕ) → 1 ≤ u → u ≤ limit → kind ≢ file_of (kind_of mode u)) → kind ≢ from) → Reads h t s f a from x y → Streams h t s f a mode limit x y
-  streams_of mode limit from x y other reads = record {
-    attached = reads.attached;
-    contents = reads.contents;
-    taken = λ kind infos blocks. reads.taken kind (other kind infos blocks);
-    stored = reads.stored;
-    later = reads.later;
-  }
-
-  pub streams_infos : (mode : Mode) (limit : ℕ) (x y : D) → Reads h t s f a Info x y → Streams h t s f a mode limit x y
-  streams_infos mode limit x y reads = streams_of mode limit Info x y (λ kind infos blocks. infos) reads
-
-  -- an iteration reads the file of its kind, and not Info
-  pub streams_blocks : (mode : Mode) (limit u : ℕ) (x y : D) → 1 ≤ u → u ≤ limit → Reads h t s f a (file_of (kind_of mode u)) x y → Streams h t s f a mode limit x y
-  streams_blocks mode limit u x y some few reads = streams_of mode limit (file_of (kind_of mode u)) x y (λ kind infos blocks. blocks u some few) reads
-
-  -- one iteration more
-  pub streams_more : (mode m : Mode) (limit u : ℕ) (x y z : D) → m ≡ mode → 1 ≤ u → u ≤ limit → Streams h t s f a mode limit x y → Reads h t s f a (file_of (kind_of m u)) y z → Streams h t s f a mode limit x z
-  streams_more mode m limit u x y z same some few first reads =
-      streams_then mode limit x y z first (streams_blocks mode limit u y z some few (subst (λ (k : Mode). Reads h t s f a (file_of (kind_of k u)) y z) same reads))
-
-  pub infos_stay : (kind : Kind) (x y : D) → Reads h t s f a (file_of kind) x y → t y Info ≡ t x Info
-  infos_stay kind x y reads = reads.taken Info (infos_apart kind)
+  -- so does an iteration of it
+  pub turn_touches : (o q : RunOptions) (u : ℕ) (x y z : D) → o ≡ q → 1 ≤ u → u ≤ q.iterations → Touches h t s f a (run_takes q.mode q.iterations) (run_stores q.mode q.iterations) x y
+      → Touches h t s f a (takes_of (kind_of o.mode u)) (stores_of (feeds_ahead o.mode o.iterations u)) y z → Touches h t s f a (run_takes q.mode q.iterations) (run_stores q.mode q.iterations) x z
+  turn_touches o q u x y z same some few first turn =
+      let here = subst (λ (k : RunOptions). Touches h t s f a (takes_of (kind_of k.mode u)) (stores_of (feeds_ahead k.mode k.iterations u)) y z) same turn in
+      touches_then h t s f a (run_takes q.mode q.iterations) (run_stores q.mode q.iterations) x y z first
+      (touches_more h t s f a (takes_of (kind_of q.mode u)) (stores_of (feeds_ahead q.mode q.iterations u)) (run_takes q.mode q.iterations) (run_stores q.mode q.iterations) y z
+      (λ kind none. any_none (λ v. takes_of (kind_of q.mode v) kind) 1 q.iterations u (neither (start_takes kind) (list_any (λ v. takes_of (kind_of q.mode v) kind) (range_with_len 1 q.iterations)) none).1 some (omega (arith, few)))
+      (λ kind none. any_none (λ v. stores_of (feeds_ahead q.mode q.iterations v) kind) 1 q.iterations u (neither (stores_of false kind) (list_any (λ v. stores_of (feeds_ahead q.mode q.iterations v) kind) (range_with_len 1 q.iterations)) none).1 some (omega (arith, few))) here)

@@ -1,6 +1,6 @@
 -- How the iterations of a run go on and end.
-use Rattle.std.proofs.Common.{◌≡◌, ◌==◌, ◌⊎◌, inl, inr, ◌<◌, ◌≤◌, ℕ, zero, suc, ◌+◌, ◌-◌, Bool, true, false, List, [], ◌++◌, Option, Some, None, Err, find, refl, sym, ap, ◌∙◌, subst, arith}
-use Rattle.std.specs.Prelude.{if◌then◌else◌}
+use Rattle.std.proofs.Common.{◌≡◌, ◌==◌, ◌⊎◌, inl, inr, ◌<◌, ◌≤◌, ℕ, zero, suc, ◌-◌, Bool, true, false, List, [], ◌++◌, Option, Some, None, Result, Ok, Err, find, refl, sym, ap, ◌∙◌, subst, arith}
+use Rattle.std.specs.Prelude.{if◌then◌else◌, IfErr, IfOk}
 use Rattle.std.specs.List.{range_with_len}
 use Rattle.std.proofs.lemmas.Bool.{cases_eq, cond-true, cond-false, eq-eqb, ne_eqb}
 use Rattle.lumos_base.specs.declared.records.Edge.{Edge}
@@ -13,13 +13,19 @@ use Rattle.lumos_report.specs.Report.{counts_line}
 use Rattle.lumos_report.specs.declared.records.Kind.{Kind}
 use Rattle.lumos_report.specs.declared.records.Why.TheVariants.{Limit}
 use Rattle.value_files.specs.declared.fault.FileFault.TheVariants as file
+use Rattle.windows.specs.Windows.{Coding, Told, WindowState}
 use Rattle.early_engine.specs.Making.{IsMade, IsUnmade}
 use Rattle.early_engine.specs.Passes.{kind_of}
 use Rattle.early_engine.specs.Report.{closing_line, end_line, finished, shown_lines, turn_line, turn_of, turn_text}
-use Rattle.early_engine.specs.Turns.{fault_of, HasTurned, TurnComes, TurnTells}
-use Rattle.early_engine.specs.declared.iteration.Stop.{Stop}
-use Rattle.early_engine.specs.declared.iteration.Stop.TheVariants as stop
+use Rattle.early_engine.specs.Early.{IsKept}
+use Rattle.early_engine.specs.Shown.{WritesRun}
+use Rattle.early_engine.specs.Starts.{IsFromOutside}
+use Rattle.early_engine.specs.Turns.{fault_of, HasFront, TurnComes, TurnTells}
+use Rattle.early_engine.specs.declared.part.Stop.{Stop}
+use Rattle.early_engine.specs.declared.part.Stop.TheVariants as stop
 use Rattle.early_engine.specs.declared.options.Mode.{Mode}
+use Rattle.early_engine.specs.declared.options.RunFault.{RunFault}
+use Rattle.early_engine.specs.declared.options.RunFault.TheVariants.{Depot, Out, Range, Damaged}
 use Rattle.early_engine.specs.declared.options.Show.{Show}
 use Rattle.early_engine.specs.declared.options.Turn.{Turn}
 use Rattle.early_engine.specs.declared.options.Turn.TheVariants.{Going, Ended}
@@ -144,44 +150,46 @@ module _ {V S : Type 0} (p : Program V S) (show : Show) (mode : Mode) (edges : L
       ((still, refl), sym line)
   closes (suc k) none moved = closes_on k none moved (cases_eq (suc t) limit)
 
-  moved_is : (counts : Counts) (items : List V) (sums : List S) (flags : List Bool) → IsMade p edges cut mode limit t items sums flags counts → counts.moved ≡ moved_count p edges n t
-  moved_is counts items sums flags made = ap (λ (k : Counts). k.moved) made.counted
+  module _ (coding : Coding V S) (windows : WindowState V S) (told : Told) (flags : List Bool) (counts : Counts) (made : IsMade p coding edges cut mode limit t windows told flags counts) (iteration long : ℕ) (kind : Kind) (at : iteration ≡ suc t) (all : long ≡ n) (sort : kind ≡ kind_of mode iteration) where
+    moved_is : counts.moved ≡ moved_count p edges n t
+    moved_is = ap (λ (k : Counts). k.moved) made.counted
 
-  -- the text that was written is that of the iteration
-  text_is : (iteration long : ℕ) (kind : Kind) (counts : Counts) (items : List V) (sums : List S) (flags : List Bool) → iteration ≡ t + 1 → long ≡ n → kind ≡ kind_of mode iteration → IsMade p edges cut mode limit t items sums flags counts
-      → (counts_line iteration kind counts ++ shown_lines p show (values p edges (suc t)) long) ++ turn_line (turn_of iteration limit counts.moved) ≡ turn_text p show mode edges n cut.parts limit t
-  text_is iteration long kind counts items sums flags at all is_kind made =
-      let here : iteration ≡ suc t = omega arith in
-      let sort = is_kind ∙ ap (kind_of mode) here in
-      let moved = moved_is counts items sums flags made in
-      let line = ap (λ (k : ℕ). turn_line (turn_of k limit counts.moved)) here ∙ (closes counts.moved made.none moved).1 in
-      let counted = made.counted in
-      ap (λ l. (counts_line iteration kind counts ++ shown_lines p show (values p edges (suc t)) long) ++ l) line
-      ∙ (λ i. (counts_line (here i) (sort i) (counted i) ++ shown_lines p show (values p edges (suc t)) (all i)) ++ closing_line (suc t) end)
+    -- the text that was written is that of the iteration
+    abbrev pub written_text : List ℕ
+    written_text = (counts_line iteration kind counts ++ shown_lines p show (values p edges (suc t)) long) ++ turn_line (turn_of iteration limit counts.moved)
 
-  pub turned_ok : (iteration long : ℕ) (kind : Kind) (counts : Counts) (items : List V) (sums : List S) (flags : List Bool) (old new : Option (List ℕ)) (turn : Turn) → iteration ≡ t + 1 → long ≡ n → kind ≡ kind_of mode iteration → IsMade p edges cut mode limit t items sums flags counts → turn ≡ turn_of iteration limit counts.moved
-      → new ≡ after_told old ((counts_line iteration kind counts ++ shown_lines p show (values p edges (suc t)) long) ++ turn_line (turn_of iteration limit counts.moved))
-      → HasTurned p show mode edges cut limit t items sums flags old new turn
-  turned_ok iteration long kind counts items sums flags old new turn at all is_kind made told written =
-      let here : iteration ≡ suc t = omega arith in
-      let same : turn_of (suc t) limit counts.moved ≡ turn = ap (λ (k : ℕ). turn_of k limit counts.moved) (sym here) ∙ sym told in
-      record {
-        kept = made.kept;
-        written = written ∙ ap (after_told old) (text_is iteration long kind counts items sums flags at all is_kind made);
-        tells = subst (TurnTells p show mode edges cut limit t) same (closes counts.moved made.none (moved_is counts items sums flags made)).0;
-      }
+    text_is : written_text ≡ turn_text p show mode edges n cut.parts limit t
+    text_is =
+        let line = ap (λ (k : ℕ). turn_line (turn_of k limit counts.moved)) at ∙ (closes counts.moved made.none moved_is).1 in
+        let counted = made.counted in
+        ap (λ l. (counts_line iteration kind counts ++ shown_lines p show (values p edges (suc t)) long) ++ l) line
+        ∙ (λ i. (counts_line (at i) ((sort ∙ ap (kind_of mode) at) i) (counted i) ++ shown_lines p show (values p edges (suc t)) (all i)) ++ closing_line (suc t) end)
 
-  pub turned_cut : (iteration long : ℕ) (kind : Kind) (counts : Counts) (items : List V) (sums : List S) (flags : List Bool) (old new : Option (List ℕ)) → iteration ≡ t + 1 → long ≡ n → kind ≡ kind_of mode iteration → IsMade p edges cut mode limit t items sums flags counts
-      → AppendsFront old new ((counts_line iteration kind counts ++ shown_lines p show (values p edges (suc t)) long) ++ turn_line (turn_of iteration limit counts.moved))
-      → AppendsFront old new (turn_text p show mode edges n cut.parts limit t) × (suc t ≤ finished end)
-  turned_cut iteration long kind counts items sums flags old new at all is_kind made front = (
-    subst (AppendsFront old new) (text_is iteration long kind counts items sums flags at all is_kind made) front,
-    subst (λ e. suc t ≤ finished e) (sym next) (reaches_more p edges n (limit - suc t) t made.none),
-  )
+    front_of : (old new : Option (List ℕ)) → AppendsFront old new written_text → HasFront p show mode edges cut limit t old new
+    front_of old new front = record {
+      front = subst (AppendsFront old new) text_is front;
+      made = subst (λ e. suc t ≤ finished e) (sym next) (reaches_more p edges n (limit - suc t) t made.none);
+    }
 
-  pub turned_stop : (iteration : ℕ) (why : Stop) (items : List V) (sums : List S) (flags : List Bool) (old : Option (List ℕ)) → iteration ≡ t + 1 → IsUnmade p edges cut t why → TurnComes p show mode edges cut limit t items sums flags old old (Err (fault_of iteration why))
-  turned_stop iteration (stop.File file.Depot) items sums flags old at unmade = refl
-  turned_stop iteration (stop.File (file.Damaged kind place found)) items sums flags old at unmade = absurd unmade
-  turned_stop iteration (stop.Over vertex) items sums flags old at unmade =
-      let here : suc t ≡ iteration = omega arith in
-      (next ∙ ends_over p edges n (limit - suc t) t vertex.0 unmade ∙ ap (λ (k : ℕ). over_in k vertex.0) here, sym here, refl)
+    -- an iteration that was made, and written as far as the outside let it
+    pub turned : (after : WindowState V S) (later : Told) (old new : Option (List ℕ)) (result : Result Turn RunFault) → IsKept coding p edges cut mode limit (suc t) after later flags → IfOk result (λ turn. turn ≡ turn_of iteration limit counts.moved) → IfErr result IsFromOutside
+        → WritesRun old new written_text result → TurnComes p show mode edges cut limit t coding after later flags old new result
+    turned after later old new (Ok turn) kept told outside written =
+        let same : turn_of (suc t) limit counts.moved ≡ turn = ap (λ (k : ℕ). turn_of k limit counts.moved) (sym at) ∙ sym told in
+        record {
+          kept = kept;
+          written = written ∙ ap (after_told old) text_is;
+          tells = subst (TurnTells p show mode edges cut limit t) same (closes counts.moved made.none moved_is).0;
+        }
+    turned after later old new (Err Depot) kept told outside written = inr (front_of old new written)
+    turned after later old new (Err Out) kept told outside written = front_of old new written
+    turned after later old new (Err (Range u v)) kept told outside written = absurd outside
+    turned after later old new (Err (Damaged file place found)) kept told outside written = absurd outside
+
+  -- an iteration that isn't made
+  pub turned_stop : (coding : Coding V S) (windows : WindowState V S) (told : Told) (flags : List Bool) (iteration : ℕ) (why : Stop) (old : Option (List ℕ)) → iteration ≡ suc t → IsUnmade p edges cut t why
+      → TurnComes p show mode edges cut limit t coding windows told flags old old (Err (fault_of iteration why))
+  turned_stop coding windows told flags iteration (stop.File file.Depot) old at unmade = inl refl
+  turned_stop coding windows told flags iteration (stop.File (file.Damaged kind place found)) old at unmade = absurd unmade
+  turned_stop coding windows told flags iteration (stop.Over vertex) old at unmade =
+      (next ∙ ends_over p edges n (limit - suc t) t vertex.0 unmade ∙ ap (λ (k : ℕ). over_in k vertex.0) (sym at), at, refl)

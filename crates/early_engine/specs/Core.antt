@@ -1,16 +1,18 @@
 -- The iterations of an engine as events of the event core, and the state of the core that an engine stands for.
-use Rattle.std.specs.Prelude.{◌≡◌, ℕ, suc, ◌<◌, ◌&&◌, nat_lt, Bool, true, false, cond, List, [], ◌∷◌, ◌++◌, flat_map, take, drop, Some}
+use Rattle.std.specs.Prelude.{◌≡◌, ℕ, suc, ◌<◌, ◌&&◌, nat_lt, Bool, true, false, cond, List, [], ◌∷◌, ◌++◌, flat_map, Some}
 use Rattle.std.specs.List.{range_with_len}
 use Rattle.lumos_base.specs.declared.records.Edge.{Edge}
 use Rattle.lumos_law.specs.Program.{Program}
-use Rattle.lumos_law.specs.Sync.{values, IsChunk}
-use Rattle.partition.specs.Parts.{Cut, chunk_of, chunk_size, first_vertex, part_length, IsInPart}
+use Rattle.lumos_law.specs.Sync.{sum_at, values, IsChunk}
+use Rattle.partition.specs.Parts.{Cut, chunk_of, chunk_size, first_vertex, IsInPart}
 use Rattle.flight_core.specs.Events.{State, after, is_done, is_final, kept_of, prior, start, sums_of, AreLegal}
 use Rattle.flight_core.specs.Sound.{IsSound}
 use Rattle.flight_core.specs.declared.event.Event.{Event}
 use Rattle.flight_core.specs.declared.event.Event.TheVariants.{Feed, Skip, Finalise}
 use Rattle.lumos_report.specs.declared.records.Kind.{Kind}
-use Rattle.early_engine.specs.Early.{early_sum}
+use Rattle.windows.specs.Kept.{KeepsList, StoresList}
+use Rattle.windows.specs.Windows.{Coding, Told, WindowState}
+use Rattle.early_engine.specs.Early.{early_edges}
 use Rattle.early_engine.specs.Passes.{Hot, feeds_ahead, is_hot, kind_of, rows_of}
 use Rattle.early_engine.specs.declared.options.Mode.{Mode}
 
@@ -54,17 +56,19 @@ module _ {V S : Type 0} (p : Program V S) (edges : List Edge) (n parts : ℕ) (h
     pub final : (u j : ℕ) → j < parts → is_final core_state u j ≡ nat_lt u (suc t)
     pub done : (i j : ℕ) → i < parts → j < parts → is_done core_state (suc t) i j ≡ (feeds_ahead mode limit t && nat_lt i j)
     pub early : feeds_ahead mode limit t ≡ true → (j : ℕ) → j < parts
-        → IsChunk (early_sum p edges (chunk_size n parts) (values p edges t)) (first_vertex n (chunk_size n parts) j) (sums_of p n (chunk_size n parts) core_state (suc t) j)
+        → IsChunk (sum_at p (early_edges edges (chunk_size n parts) j) (values p edges t)) (first_vertex n (chunk_size n parts) j) (sums_of p n (chunk_size n parts) core_state (suc t) j)
 
--- the items of the vertices of chunk j, of a list with one for each vertex
-abbrev pub chunk_in : {X : Type 0} → Cut → ℕ → List X → List X
-chunk_in cut j items =
-    take (part_length cut.vertices (chunk_of cut) j) (drop (first_vertex cut.vertices (chunk_of cut) j) items)
+-- the final values of a chunk, which windows and their files keep
+pub record HasFinal {V S : Type 0} (coding : Coding V S) (core : State V S) (t : ℕ) (windows : WindowState V S) (told : Told) (j : ℕ) : Type 0 where
+  pub items : List V
+  pub is : kept_of core.finals t j ≡ Some items
+  pub kept : KeepsList coding windows told t j items
 
--- What an engine keeps after iteration t is what the core keeps after the events of the first t iterations, which are
--- legal: each chunk's final values, and the partial sums of each column in the next iteration, where it was fed ahead.
-pub record IsCoreState {V S : Type 0} (p : Program V S) (edges : List Edge) (cut : Cut) (mode : Mode) (limit t : ℕ) (items : List V) (sums : List S) : Type 0 where
+-- What an engine and its files keep after iteration t is what the core keeps after the events of the first t iterations,
+-- which are legal: each chunk's final values, and the partial sums of each column in the next iteration, where it was fed
+-- ahead.
+pub record IsCoreState {V S : Type 0} (coding : Coding V S) (p : Program V S) (edges : List Edge) (cut : Cut) (mode : Mode) (limit t : ℕ) (windows : WindowState V S) (told : Told) : Type 0 where
   pub legal : AreLegal p edges cut.vertices (chunk_of cut) cut.parts 1000000 (start p edges cut.vertices (chunk_of cut) cut.parts) (passes_to (is_hot p edges cut.vertices cut.parts) mode limit cut.parts t)
-  pub finals : (j : ℕ) → j < cut.parts → kept_of (core_state p edges cut.vertices cut.parts (is_hot p edges cut.vertices cut.parts) mode limit t).finals t j ≡ Some (chunk_in cut j items)
+  pub finals : (j : ℕ) → j < cut.parts → HasFinal coding (core_state p edges cut.vertices cut.parts (is_hot p edges cut.vertices cut.parts) mode limit t) t windows told j
   pub partial : feeds_ahead mode limit t ≡ true → (j : ℕ) → j < cut.parts
-      → sums_of p cut.vertices (chunk_of cut) (core_state p edges cut.vertices cut.parts (is_hot p edges cut.vertices cut.parts) mode limit t) (suc t) j ≡ chunk_in cut j sums
+      → StoresList coding windows told j (sums_of p cut.vertices (chunk_of cut) (core_state p edges cut.vertices cut.parts (is_hot p edges cut.vertices cut.parts) mode limit t) (suc t) j)

@@ -1,6 +1,7 @@
 pub mod Core
 pub mod Early
 pub mod Engines
+pub mod Files
 pub mod Gone
 pub mod Grids
 pub mod Making
@@ -9,6 +10,7 @@ pub mod Passes
 pub mod Report
 pub mod Reported
 pub mod Runs
+pub mod Shown
 pub mod Starts
 pub mod Steps
 pub mod Turns

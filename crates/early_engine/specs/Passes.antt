@@ -43,6 +43,11 @@ abbrev pub rows_of : Kind → ℕ → ℕ → List ℕ
 rows_of Full p j = range_with_len 0 p
 rows_of Fed p j = range_with_len j (p - j)
 
+-- the first of these
+abbrev pub first_row : Kind → ℕ → ℕ
+first_row Full j = 0
+first_row Fed j = j
+
 -- the blocks of column j that an iteration goes through
 abbrev pub places : Kind → ℕ → ℕ → List Place
 places kind p j = map (λ i. place_at i j) (rows_of kind p j)

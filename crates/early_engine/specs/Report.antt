@@ -35,9 +35,13 @@ abbrev pub closing_line : ℕ → EndingOf → List ℕ
 closing_line t end = if finished end == t then end_line end else []
 
 module _ {V S : Type 0} (p : Program V S) where
-  -- a line for each of n vertices, where values are shown
+  -- a line for each of the n vertices from a first one on, where each vertex v has the value `state v`
+  abbrev pub value_lines : (ℕ → V) → ℕ → ℕ → List ℕ
+  value_lines state first n = flat_map (λ v. value_line v (p.show (state v))) (range_with_len first n)
+
+  -- those of n vertices, where values are shown
   abbrev pub shown_lines : Show → (ℕ → V) → ℕ → List ℕ
-  shown_lines All state n = flat_map (λ v. value_line v (p.show (state v))) (range_with_len 0 n)
+  shown_lines All state n = value_lines state 0 n
   shown_lines Brief state n = []
 
   -- the lines before the first iteration over a grid with this head, where each vertex v has the value `state v` at first

@@ -1,19 +1,18 @@
--- The steps of an iteration: what they leave behind the first rows of a column, and behind the first columns.
-use Rattle.std.specs.Prelude.{◌≡◌, ◌<◌, ◌≤◌, ⊤, ℕ, suc, ◌+◌, Bool, true, List, take, None, find}
-use Rattle.std.specs.List.{range_with_len}
-use Rattle.active_sets.specs.Active.{hot_at}
+-- The steps of an iteration: what is known behind the first rows of a column, and behind the first columns.
+use Rattle.std.specs.Prelude.{◌≡◌, ◌<◌, ◌≤◌, ⊤, ℕ, suc, ◌+◌, Bool, true, nat_lt, List, cond, [], None}
 use Rattle.lumos_base.specs.declared.records.Edge.{Edge}
 use Rattle.lumos_law.specs.Program.{Program}
-use Rattle.lumos_law.specs.Sync.{fed_sum, is_over, moved_count, sum_at, values, IsChunk}
-use Rattle.partition.specs.Blocks.{column}
+use Rattle.lumos_law.specs.Sync.{sum_at, values}
 use Rattle.partition.specs.Parts.{Cut, chunk_of, first_vertex}
 use Rattle.flight_core.specs.Finish.{finish_of}
 use Rattle.flight_core.specs.declared.steps.Finish.{Finish}
 use Rattle.io_account.specs.declared.Counts.{Counts}
 use Rattle.lumos_report.specs.declared.records.Kind.{Kind}
 use Rattle.lumos_report.specs.declared.records.Kind.TheVariants.{Full, Fed}
-use Rattle.early_engine.specs.Early.{early_sum}
-use Rattle.early_engine.specs.Passes.{Place, is_hot, needed}
+use Rattle.windows.specs.Kept.{Keeps}
+use Rattle.windows.specs.Sums.{StoresEarly}
+use Rattle.windows.specs.Windows.{Coding, Told, WindowState}
+use Rattle.early_engine.specs.Early.{AreHot, AreHotOf, early_edges}
 
 -- an iteration of a kind goes through block (i,j)
 abbrev pub GoesThrough : Kind → ℕ → ℕ → Type 0
@@ -29,43 +28,36 @@ with_read Fed counts = record counts { secondary = counts.secondary + 1 }
 abbrev pub blocks_in : Counts → ℕ
 blocks_in counts = counts.primary + counts.secondary + counts.skipped + counts.empty
 
+-- the edges that are fed, where they are
+abbrev pub fed_if : Bool → List Edge → List Edge
+fed_if is edges = cond is edges []
+
+-- the chunks below j
+abbrev pub below : ℕ → ℕ → Bool
+below j i = nat_lt i j
+
 module _ {V S : Type 0} (p : Program V S) where
-  -- The sums of part j hold what the first n rows of its column give, where each vertex u has the value `state u`.
-  abbrev pub IsFedTo : List Edge → Cut → ℕ → ℕ → (ℕ → V) → List S → Type 0
-  IsFedTo edges cut j n state sums =
-      IsChunk (λ v. fed_sum p (column edges (chunk_of cut) j n) state v p.unit) (first_vertex cut.vertices (chunk_of cut) j) sums
-
-  -- The flags of the first n parts tell which of them are hot in iteration t.
-  abbrev pub AreHot : List Edge → Cut → ℕ → ℕ → List Bool → Type 0
-  AreHot edges cut n t flags = (i : ℕ) → i < n → hot_at flags i ≡ is_hot p edges cut.vertices cut.parts t i
-
-  -- the blocks that iteration t + 1 needs, which may feed ahead
-  abbrev pub needs_by : List Edge → Cut → Bool → ℕ → Place → Bool
-  needs_by edges cut ahead t = needed (is_hot p edges cut.vertices cut.parts) ahead (suc t)
-
-  -- What is known where column j is fed in iteration t + 1: the values before it and those of the parts below j after it, and
-  -- which parts were hot before it and which of those below j are hot in it.
-  pub record IsReady (edges : List Edge) (cut : Cut) (j t : ℕ) (before after : List V) (were are : List Bool) : Type 0 where
-    pub holds : IsChunk (values p edges t) 0 before
-    pub made : IsChunk (values p edges (suc t)) 0 (take (first_vertex cut.vertices (chunk_of cut) j) after)
-    pub were_hot : AreHot edges cut cut.parts t were
-    pub are_hot : AreHot edges cut j (suc t) are
-
   -- what came of the first n vertices in iteration t + 1
   abbrev pub came_of : List Edge → ℕ → ℕ → Finish
   came_of edges t n = finish_of p (values p edges t) (sum_at p edges (values p edges t)) 0 n
 
-  -- Iteration t + 1 is made of the parts below j, so many values moved in them, and none of their vertices is over.
-  pub record IsMadeBelow (edges : List Edge) (cut : Cut) (j t : ℕ) (after : List V) (moved : ℕ) : Type 0 where
-    pub chunk : IsChunk (values p edges (suc t)) 0 (take (first_vertex cut.vertices (chunk_of cut) j) after)
-    pub count : moved ≡ (came_of edges t (first_vertex cut.vertices (chunk_of cut) j)).moved
-    pub none : (came_of edges t (first_vertex cut.vertices (chunk_of cut) j)).over ≡ None
+module _ {V S : Type 0} (coding : Coding V S) (p : Program V S) (edges : List Edge) (cut : Cut) where
+  -- What is known in iteration t + 1, where some columns are made: the values before it and those of the made parts after it
+  -- are kept, and the flags tell which parts were hot before it and which of the made ones are hot in it.
+  pub record IsReady (done : ℕ → Bool) (t : ℕ) (windows : WindowState V S) (told : Told) (were are : List Bool) : Type 0 where
+    pub holds : (i : ℕ) → i < cut.parts → Keeps coding windows told t i (values p edges t)
+    pub made : (i : ℕ) → i < cut.parts → done i ≡ true → Keeps coding windows told (suc t) i (values p edges (suc t))
+    pub were_hot : AreHot p edges cut t were
+    pub are_hot : AreHotOf p edges cut done (suc t) are
 
-  -- Iteration t + 1 is made: the values after it, the early sums of the next one where that was fed too, which parts are hot,
-  -- how many values moved, and no vertex is over.
-  pub record IsPassed (edges : List Edge) (cut : Cut) (ahead : Bool) (t : ℕ) (items : List V) (sums : List S) (flags : List Bool) (counts : Counts) : Type 0 where
-    pub holds : IsChunk (values p edges (suc t)) 0 items
-    pub early : ahead ≡ true → IsChunk (early_sum p edges (chunk_of cut) (values p edges (suc t))) 0 sums
-    pub active : AreHot edges cut cut.parts (suc t) flags
-    pub moved : counts.moved ≡ moved_count p edges cut.vertices t
-    pub none : find (is_over p edges t) (range_with_len 0 cut.vertices) ≡ None
+  -- Iteration t + 1 is made of the parts below j, so many values moved in them, and none of their vertices is over.
+  pub record IsMadeBelow (j t : ℕ) (windows : WindowState V S) (told : Told) (were are : List Bool) (moved : ℕ) : Type 0 where
+    pub ready : IsReady (below j) t windows told were are
+    pub count : moved ≡ (came_of p edges t (first_vertex cut.vertices (chunk_of cut) j)).moved
+    pub none : (came_of p edges t (first_vertex cut.vertices (chunk_of cut) j)).over ≡ None
+
+  -- Before column j of an iteration of a kind, the early sums are stored that it goes on from, by the values before it; and
+  -- those of the parts below j that it leaves for the next one, where it feeds ahead, by the values after it.
+  pub record AreEarly (kind : Kind) (ahead : Bool) (j t : ℕ) (windows : WindowState V S) (told : Told) : Type 0 where
+    pub given : kind ≡ Fed → (i : ℕ) → j ≤ i → i < cut.parts → StoresEarly coding p windows told i (values p edges t) (early_edges edges (chunk_of cut) i)
+    pub left : ahead ≡ true → (i : ℕ) → i < j → StoresEarly coding p windows told i (values p edges (suc t)) (early_edges edges (chunk_of cut) i)

@@ -1,5 +1,5 @@
 -- What comes of an iteration.
-use Rattle.std.specs.Prelude.{◌≡◌, ◌≤◌, ◌<◌, ◌-◌, ⊤, ℕ, suc, Bool, List, Option, Result, Ok, Err}
+use Rattle.std.specs.Prelude.{◌≡◌, ◌≤◌, ◌<◌, ◌⊎◌, ◌-◌, ⊤, ℕ, suc, Bool, List, Option, Result, Ok, Err}
 use Rattle.lumos_base.specs.declared.records.Edge.{Edge}
 use Rattle.lumos_depot.specs.Streams.{AppendsFront, after_told}
 use Rattle.lumos_law.specs.Program.{Program}
@@ -11,12 +11,13 @@ use Rattle.lumos_report.specs.declared.records.Ending.{Ending}
 use Rattle.lumos_report.specs.declared.records.Why.{Why}
 use Rattle.lumos_report.specs.declared.records.Why.TheVariants.{Still, Limit}
 use Rattle.value_files.specs.declared.fault.FileFault.TheVariants as file
+use Rattle.windows.specs.Windows.{Coding, Told, WindowState}
 use Rattle.early_engine.specs.Early.{IsKept}
-use Rattle.early_engine.specs.Grids.{IsStrayWord}
+use Rattle.early_engine.specs.Grids.{IsOfIteration}
 use Rattle.early_engine.specs.Passes.{kind_of}
 use Rattle.early_engine.specs.Report.{finished, turn_text}
-use Rattle.early_engine.specs.declared.iteration.Stop.{Stop}
-use Rattle.early_engine.specs.declared.iteration.Stop.TheVariants as stop
+use Rattle.early_engine.specs.declared.part.Stop.{Stop}
+use Rattle.early_engine.specs.declared.part.Stop.TheVariants as stop
 use Rattle.early_engine.specs.declared.options.Mode.{Mode}
 use Rattle.early_engine.specs.declared.options.Phase.{Phase}
 use Rattle.early_engine.specs.declared.options.Phase.TheVariants as phase
@@ -49,20 +50,22 @@ abbrev pub phase_of : Result Turn RunFault → Phase
 phase_of (Ok turn) = phase_after turn
 phase_of (Err fault) = phase.Stopped
 
--- What a fault of iteration t shows over every depot: the iteration, and a vertex of the grid that is over; or a word of a
--- block that this iteration goes through, in the file of its kind, that is no vertex of its part.
-abbrev pub RunShows : {V S : Type 0} → (V → Type 0) → (S → Type 0) → Program V S → Mode → Cut → BlockCounts → ℕ → RunFault → Type 0
-RunShows ValueIn SumIn p mode cut table t Depot = ⊤
-RunShows ValueIn SumIn p mode cut table t Out = ⊤
-RunShows ValueIn SumIn p mode cut table t (Range iteration v) = (iteration ≡ t) × (v < cut.vertices) × IsOver ValueIn SumIn p v
-RunShows ValueIn SumIn p mode cut table t (Damaged kind place found) = IsStrayWord (kind_of mode t) cut table kind place found
+module _ {V S : Type 0} (ValueIn : V → Type 0) (SumIn : S → Type 0) (coding : Coding V S) (p : Program V S) (windows : WindowState V S) (mode : Mode) (table : BlockCounts) where
+  -- What a fault of iteration t shows over every depot: the iteration, and a vertex of the grid that is over; or a word of a
+  -- block that this iteration goes through, in the file of its kind, that is no vertex of its part; or a record of Values or
+  -- of Sums that stands for no number.
+  abbrev pub RunShows : ℕ → RunFault → Type 0
+  RunShows t Depot = ⊤
+  RunShows t Out = ⊤
+  RunShows t (Range iteration v) = (iteration ≡ t) × (v < windows.cut.vertices) × IsOver ValueIn SumIn p v
+  RunShows t (Damaged kind place found) = IsOfIteration coding windows (kind_of mode t) table (file.Damaged kind place found)
 
--- what a fault of some iteration shows, of the first `limit` of them
-pub record SomeShows {V S : Type 0} (ValueIn : V → Type 0) (SumIn : S → Type 0) (p : Program V S) (mode : Mode) (limit : ℕ) (cut : Cut) (table : BlockCounts) (fault : RunFault) : Type 0 where
-  pub iteration : ℕ
-  pub some : 1 ≤ iteration
-  pub few : iteration ≤ limit
-  pub shown : RunShows ValueIn SumIn p mode cut table iteration fault
+  -- what a fault of some iteration shows, of the first `limit` of them
+  pub record SomeShows (limit : ℕ) (fault : RunFault) : Type 0 where
+    pub iteration : ℕ
+    pub some : 1 ≤ iteration
+    pub few : iteration ≤ limit
+    pub shown : RunShows iteration fault
 
 module _ {V S : Type 0} (p : Program V S) (show : Show) (mode : Mode) (edges : List Edge) (cut : Cut) (limit t : ℕ) where
   -- how the run ends
@@ -75,16 +78,21 @@ module _ {V S : Type 0} (p : Program V S) (show : Show) (mode : Mode) (edges : L
   TurnTells (Ended end) = (run_end ≡ ending_told end) × (end.iterations ≡ suc t)
 
   -- Iteration t + 1 was made and reported.
-  pub record HasTurned (items : List V) (sums : List S) (flags : List Bool) (old new : Option (List ℕ)) (turn : Turn) : Type 0 where
-    pub kept : IsKept p edges cut mode limit (suc t) items sums flags
+  pub record HasTurned (coding : Coding V S) (windows : WindowState V S) (told : Told) (flags : List Bool) (old new : Option (List ℕ)) (turn : Turn) : Type 0 where
+    pub kept : IsKept coding p edges cut mode limit (suc t) windows told flags
     pub written : new ≡ after_told old (turn_text p show mode edges cut.vertices cut.parts limit t)
     pub tells : TurnTells turn
 
+  -- It was made, and a front of its text was written.
+  pub record HasFront (old new : Option (List ℕ)) : Type 0 where
+    pub front : AppendsFront old new (turn_text p show mode edges cut.vertices cut.parts limit t)
+    pub made : suc t ≤ finished run_end
+
   -- What comes of iteration t + 1: it is made and reported; or a vertex is over in it, as the run ends, and nothing was
   -- reported; or the outside failed, and a front of its text was written.
-  abbrev pub TurnComes : List V → List S → List Bool → Option (List ℕ) → Option (List ℕ) → Result Turn RunFault → Type 0
-  TurnComes items sums flags old new (Ok turn) = HasTurned items sums flags old new turn
-  TurnComes items sums flags old new (Err (Range iteration vertex)) = (run_end ≡ over_in iteration vertex) × (iteration ≡ suc t) × (new ≡ old)
-  TurnComes items sums flags old new (Err Out) = AppendsFront old new (turn_text p show mode edges cut.vertices cut.parts limit t) × (suc t ≤ finished run_end)
-  TurnComes items sums flags old new (Err Depot) = new ≡ old
-  TurnComes items sums flags old new (Err (Damaged kind place found)) = ⊥
+  abbrev pub TurnComes : Coding V S → WindowState V S → Told → List Bool → Option (List ℕ) → Option (List ℕ) → Result Turn RunFault → Type 0
+  TurnComes coding windows told flags old new (Ok turn) = HasTurned coding windows told flags old new turn
+  TurnComes coding windows told flags old new (Err (Range iteration vertex)) = (run_end ≡ over_in iteration vertex) × (iteration ≡ suc t) × (new ≡ old)
+  TurnComes coding windows told flags old new (Err Out) = HasFront old new
+  TurnComes coding windows told flags old new (Err Depot) = (new ≡ old) ⊎ HasFront old new
+  TurnComes coding windows told flags old new (Err (Damaged kind place found)) = ⊥

@@ -1,148 +1,101 @@
 // The values at first, from what leads out of each vertex, and which parts are hot by them.
-ghost use Rattle.std.specs.Prelude.{◌≡◌, ◌≤◌, ◌<◌, ◌+◌, ◌*◌, ◌-◌, ℕ, List, Some, Err, drop, length, IfErr, IfSome, IsSome, OnErr, OnOk};
+ghost use Rattle.std.specs.Prelude.{◌≡◌, ◌≤◌, ◌<◌, ◌+◌, ◌*◌, ℕ, false, List, Err, length, sum_by, IfErr, IfSome, IsSome, OnOk};
 ghost use Rattle.std.specs.List.{list_any, range_with_len};
 ghost use Rattle.active_sets.specs.Active.{hot_at};
-ghost use Rattle.lumos_base.specs.Records.{info_from};
 ghost use Rattle.lumos_base.specs.declared.records.Edge.{Edge};
 ghost use Rattle.lumos_depot.specs.Causes.{Rose};
+ghost use Rattle.lumos_depot.specs.Steps.{Moves, RoseBy, Touches};
 ghost use Rattle.lumos_depot.specs.declared.depot.FileKind.{FileKind};
-ghost use Rattle.lumos_law.specs.Sync.{values, IsChunk};
-ghost use Rattle.partition.specs.Parts.{chunk_of, first_vertex, part_length};
-ghost use Rattle.lumos_depot.specs.Steps.{Reads, RoseBy};
-ghost use Rattle.grid_format.specs.Tables.{BlockCounts};
-ghost use Rattle.early_engine.specs.Engines.{cut_in};
-ghost use Rattle.early_engine.specs.Grids.{IsOnGrid};
-ghost use Rattle.early_engine.specs.Reported.{IsOpening};
-ghost use Rattle.early_engine.specs.Starts.{IsFromOutside, StartComes, given_values};
+ghost use Rattle.windows.specs.Kept.{load_bytes};
+ghost use Rattle.windows.specs.Sums.{given_values};
+ghost use Rattle.windows.specs.Windows.{IsSameRoom, chunk_count, chunk_first};
 ghost use Rattle.grid_format.specs.Grid.{grid_head};
+ghost use Rattle.early_engine.specs.Engines.{cut_in};
+ghost use Rattle.early_engine.specs.Early.{AreHot};
+ghost use Rattle.early_engine.specs.Files.{start_takes, stores_of};
+ghost use Rattle.early_engine.specs.Grids.{FitsFiles, IsOnGrid};
+ghost use Rattle.early_engine.specs.Reported.{IsOpening};
+ghost use Rattle.early_engine.specs.Runs.{RoseAll, stored_first, taken_first};
+ghost use Rattle.early_engine.specs.Shown.{KeepsAll};
+ghost use Rattle.early_engine.specs.Starts.{StartComes, StartShows};
 
+use crate::layout::Layout;
 use crate::options::{RunFault, Show};
-use crate::write::write_first;
-use active_sets::ActiveParts;
+use crate::room::Room;
+use crate::write::{fault_of_file, write_first};
 use grid_format::GridInfo;
-use lumos_base::{Fixed, OutInfo, Vertex};
-use lumos_depot::{Depot, Failed, FileKind, Sink};
+use lumos_base::Fixed;
+use lumos_depot::{Depot, FileKind, Sink};
 use lumos_law::VertexProgram;
-use partition::Parts;
+use value_files::FileFault;
+use windows::Coded;
 
-// How many records are read at a time.
-const PIECE: usize = 256;
-
-// The value at first of a vertex, by the bytes of what leads out of it.
-fn first_value<G: VertexProgram>(program: &G, vertex: usize, bytes: &[u8]) -> G::Value
-    requires whole { length bytes.now ≡ 12 }
-    requires few { vertex ≤ 268435456 }
-    ensures { result ≡ (G.model program.now).init vertex (info_from bytes.now) }
-{
-    match OutInfo::get(bytes) {
-        Some(info) => program.init(Vertex(vertex as u32), info),
-        None => unreachable!(),
-    }
-}
-
-// Sets the values at first of the vertices from `first` on, by the bytes of what leads out of them.
-fn set_values<G: VertexProgram>(program: &G, first: usize, bytes: &[u8], values: &mut [G::Value])
-    requires whole { length bytes.now ≡ 12 * length values.old }
-    requires few { first + length values.old ≤ 268435456 }
-    ensures { IsChunk (λ v. (G.model program.now).init v (info_from (drop (12 * (v - first)) bytes.now))) first values.new }
-{
-    for i in 0..values.len() {
-        values[i] = first_value(program, first + i, &bytes[12 * i..12 * i + 12]);
-    }
-}
-
-// Sets the values at first of all vertices, by the records of Info.
-fn load_values<G: VertexProgram, D: Depot>(
+// Sets the values at first of all parts and keeps them, and marks which parts are hot by them.
+fn set_first<G: VertexProgram, D: Depot>(
     program: &G,
+    layout: &Layout,
     depot: &mut D,
-    values: &mut [G::Value],
-) -> Result<(), Failed>
+    room: &mut Room<G>,
+) -> Result<(), FileFault>
     requires attached { IsSome (D.attached depot.old) }
-    requires few { length values.old ≤ 268435456 }
-    requires inside { IfSome (D.holds depot.old FileKind.Info) (λ file. 12 * length values.old ≤ length file) }
-    ensures told { OnOk result (IfSome (D.holds depot.old FileKind.Info) (λ file. IsChunk (given_values (G.model program.now) file) 0 values.new)) }
-    ensures taken { OnOk result (RoseBy (D.taken depot.old FileKind.Info) (D.taken depot.new FileKind.Info) (12 * length values.old)) }
-    ensures reads { Reads D.holds D.taken D.stored D.faults D.attached FileKind.Info depot.old depot.new }
-    ensures cause { OnErr result (Rose (D.faults depot.old) (D.faults depot.new)) }
+    requires active_fits { room.old.active.parts ≡ layout.now.parts.parts }
+    requires fits { FitsFiles ⟦<G as Coded>⟧.coding layout.now.parts layout.now.table room.old.windows (D.holds depot.old) }
+    requires infos { IfSome (D.holds depot.old FileKind.Info) (λ file. length file ≡ 12 * layout.now.parts.vertices) }
+    ensures some { 0 < layout.now.parts.parts }
+    ensures active_fits { room.new.active.parts ≡ room.old.active.parts }
+    ensures kept { IfSome (D.holds depot.old FileKind.Info) (λ file. OnOk result (KeepsAll ⟦<G as Coded>⟧.coding room.new.windows (D.holds depot.new) 0 (given_values (G.model program.now) file))) }
+    ensures hot { IfSome (D.holds depot.old FileKind.Info) (λ file. OnOk result ((i : ℕ) → i < layout.now.parts.parts → hot_at room.new.active.was_hot i ≡ list_any (λ v. (G.model program.now).contributes (given_values (G.model program.now) file v))
+        (range_with_len (chunk_first room.old.windows i) (chunk_count room.old.windows i)))) }
+    ensures room { IsSameRoom room.old.windows room.new.windows }
+    ensures fits { FitsFiles ⟦<G as Coded>⟧.coding layout.now.parts layout.now.table room.new.windows (D.holds depot.new) }
+    ensures taken { OnOk result (RoseBy (D.taken depot.old FileKind.Info) (D.taken depot.new FileKind.Info) (12 * layout.now.parts.vertices)) }
+    ensures stored { OnOk result (RoseBy (D.stored depot.old FileKind.Values) (D.stored depot.new FileKind.Values) (sum_by (load_bytes ⟦<G as Coded>⟧.coding room.old.windows) (range_with_len 0 layout.now.parts.parts))) }
+    ensures moves { Moves D.holds D.taken D.stored D.faults D.attached FileKind.Info FileKind.Values depot.old depot.new }
+    ensures intact { IfErr result (λ fault. fault ≡ FileFault.Depot) }
+    ensures cause { result ≡ Err FileFault.Depot → Rose (D.faults depot.old) (D.faults depot.new) }
 {
-    let mut bytes = [0; 12 * PIECE];
-    let mut done = 0;
-    while done < values.len() {
-        let past = values.len().min(done + PIECE);
-        let room = &mut bytes[..12 * (past - done)];
-        let Ok(()) = depot.read_at(FileKind::Info, 12 * done as u64, room) else {
-            return Err(Failed);
-        };
-        set_values(program, done, room, &mut values[done..past]);
-        done = past;
+    for i in 0..layout.parts.parts() {
+        match room.windows.set_initial(depot, program, i) {
+            Ok(hot) => room.active.mark(i, hot),
+            Err(fault) => return Err(fault),
+        }
     }
+    room.active.turn();
     Ok(())
 }
 
 // Sets the values at first and reports them.
 pub(crate) fn make_start<G: VertexProgram, D: Depot, O: Sink>(
     program: &G,
+    layout: &Layout,
     info: GridInfo,
     show: Show,
     depot: &mut D,
     out: &mut O,
-    values: &mut [G::Value],
+    room: &mut Room<G>,
 ) -> Result<(), RunFault>
     requires attached { IsSome (D.attached depot.old) }
-    requires few { info.vertices ≤ 268435456 }
-    requires fits { length values.old ≡ info.vertices }
-    requires inside { IfSome (D.holds depot.old FileKind.Info) (λ file. 12 * info.vertices ≤ length file) }
-    ensures told { (edges : List Edge) (table : BlockCounts) → IsOnGrid edges (cut_in info) table (D.holds depot.old)
-        → info ≡ grid_head edges info.vertices info.parts
-        → StartComes (G.model program.now) (G.name_text program.now) show edges (cut_in info) values.new (O.written out.old) (O.written out.new) result }
-    ensures opened { OnOk result (IsOpening (G.model program.now) (G.name_text program.now) show info values.new (O.written out.old) (O.written out.new)) }
-    ensures taken { OnOk result (RoseBy (D.taken depot.old FileKind.Info) (D.taken depot.new FileKind.Info) (12 * info.vertices)) }
-    ensures outside { IfErr result IsFromOutside }
-    ensures reads { Reads D.holds D.taken D.stored D.faults D.attached FileKind.Info depot.old depot.new }
+    requires cut { layout.now.parts ≡ cut_in info }
+    requires active_fits { room.old.active.parts ≡ layout.now.parts.parts }
+    requires fits { FitsFiles ⟦<G as Coded>⟧.coding layout.now.parts layout.now.table room.old.windows (D.holds depot.old) }
+    requires infos { IfSome (D.holds depot.old FileKind.Info) (λ file. length file ≡ 12 * layout.now.parts.vertices) }
+    ensures active_fits { room.new.active.parts ≡ room.old.active.parts }
+    ensures told { (edges : List Edge) → IsOnGrid edges (cut_in info) layout.now.table (D.holds depot.old) → info ≡ grid_head edges info.vertices info.parts
+        → StartComes ⟦<G as Coded>⟧.coding (G.model program.now) (G.name_text program.now) show edges (cut_in info) room.new.windows (D.holds depot.new) (O.written out.old) (O.written out.new) result }
+    ensures hot { (edges : List Edge) → IsOnGrid edges (cut_in info) layout.now.table (D.holds depot.old) → OnOk result (AreHot (G.model program.now) edges (cut_in info) 0 room.new.active.was_hot) }
+    ensures opened { OnOk result (IsOpening ⟦<G as Coded>⟧.coding (G.model program.now) (G.name_text program.now) show info room.new.windows (D.holds depot.new) (O.written out.old) (O.written out.new)) }
+    ensures room { IsSameRoom room.old.windows room.new.windows }
+    ensures fits { FitsFiles ⟦<G as Coded>⟧.coding layout.now.parts layout.now.table room.new.windows (D.holds depot.new) }
+    ensures taken { OnOk result (RoseAll (D.taken depot.old) (D.taken depot.new) (taken_first (cut_in info) G.Value.WIDTH room.old.windows.pinned show)) }
+    ensures stored { OnOk result (RoseAll (D.stored depot.old) (D.stored depot.new) (stored_first (cut_in info) G.Value.WIDTH room.old.windows.pinned)) }
+    ensures shows { IfErr result (StartShows ⟦<G as Coded>⟧.coding room.old.windows) }
+    ensures touches { Touches D.holds D.taken D.stored D.faults D.attached start_takes (stores_of false) depot.old depot.new }
     ensures depot { result ≡ Err RunFault.Depot → Rose (D.faults depot.old) (D.faults depot.new) }
     ensures later { O.faults out.old ≤ O.faults out.new }
     ensures out { result ≡ Err RunFault.Out → Rose (O.faults out.old) (O.faults out.new) }
 {
-    match load_values(program, depot, values) {
-        Ok(()) => match write_first(out, program, info, show, values) {
-            Ok(()) => Ok(()),
-            Err(_) => Err(RunFault::Out),
-        },
-        Err(_) => Err(RunFault::Depot),
+    match set_first(program, layout, depot, room) {
+        Ok(()) => write_first(program, layout, info, show, depot, out, &mut room.windows),
+        Err(fault) => Err(fault_of_file(fault)),
     }
-}
-
-// Whether some value contributes.
-fn some_contributes<G: VertexProgram>(program: &G, values: &[G::Value]) -> bool
-    ensures { (state : ℕ → G.Value) (first : ℕ) → IsChunk state first values.now
-        → result ≡ list_any (λ v. (G.model program.now).contributes (state v)) (range_with_len first (length values.now)) }
-{
-    for i in 0..values.len() {
-        if program.contributes(&values[i]) {
-            return true;
-        }
-    }
-    false
-}
-
-// Sets which parts are hot before the first iteration: those with a value at first that contributes.
-pub(crate) fn mark_first<G: VertexProgram>(
-    program: &G,
-    parts: Parts,
-    values: &[G::Value],
-    active: &mut ActiveParts,
-)
-    requires parts { active.old.parts ≡ parts.parts }
-    requires fits { length values.now ≡ parts.vertices }
-    ensures parts { active.new.parts ≡ parts.parts }
-    ensures hot { (state : ℕ → G.Value) → IsChunk state 0 values.now → (i : ℕ) → i < parts.parts
-        → hot_at active.new.was_hot i ≡ list_any (λ v. (G.model program.now).contributes (state v))
-        (range_with_len (first_vertex parts.vertices (chunk_of parts) i) (part_length parts.vertices (chunk_of parts) i)) }
-{
-    for i in 0..parts.parts() {
-        let range = parts.range_of(i);
-        let part = &values[range.first as usize..range.past as usize];
-        active.mark(i, some_contributes(program, part));
-    }
-    active.turn();
 }

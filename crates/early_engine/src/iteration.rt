@@ -1,181 +1,182 @@
 // One iteration over the blocks of a grid in its files, column by column.
-ghost use Rattle.std.specs.Prelude.{◌≡◌, ◌≤◌, ◌<◌, ◌+◌, ℕ, Bool, false, List, Err, length, vec_len, IfErr, IfOk, IsSome, MatchResult};
+ghost use Rattle.std.specs.Prelude.{◌≡◌, ◌≤◌, ◌<◌, ◌+◌, ◌-◌, ◌*◌, ◌++◌, [], ℕ, Bool, suc, false, true, cond, List, Err, IfErr, IfOk, IfSome, IsSome, MatchResult, OnOk};
+ghost use Rattle.active_sets.specs.Active.{hot_at};
 ghost use Rattle.lumos_base.specs.declared.records.Edge.{Edge};
 ghost use Rattle.lumos_depot.specs.Causes.{Rose};
+ghost use Rattle.lumos_depot.specs.Steps.{Reads, RoseBy, Stores, Touches};
 ghost use Rattle.lumos_depot.specs.declared.depot.FileKind.{FileKind};
-ghost use Rattle.lumos_law.specs.Sync.{values, IsChunk};
+ghost use Rattle.lumos_law.specs.Sync.{values};
 ghost use Rattle.lumos_report.specs.declared.records.Kind.{Kind};
+ghost use Rattle.partition.specs.Blocks.{column};
 ghost use Rattle.partition.specs.Parts.{chunk_of};
-ghost use Rattle.lumos_depot.specs.Steps.{Reads};
-ghost use Rattle.early_engine.specs.Early.{IsKept, early_sum};
-ghost use Rattle.early_engine.specs.Engines.{IsRoomy};
-ghost use Rattle.early_engine.specs.Grids.{HasBlocks, IsLaid, IsOnGrid, bytes_in};
-ghost use Rattle.early_engine.specs.Gone.{AreOf, HasGone};
+ghost use Rattle.value_files.specs.Records.{IsIntact};
+ghost use Rattle.windows.specs.Kept.{Stays, StaysButSums, load_bytes};
+ghost use Rattle.windows.specs.Sums.{HasNext, HasSums, StoresEarly};
+ghost use Rattle.windows.specs.Windows.{IsSameRoom, IsSized, chunk_count};
+ghost use Rattle.grid_format.specs.Tables.{edges_in_rows};
+ghost use Rattle.early_engine.specs.Early.{IsKept, early_edges};
+ghost use Rattle.early_engine.specs.Files.{stores_of, takes_of};
+ghost use Rattle.early_engine.specs.Gone.{AreOf, Beside, HasGone, and_column, beside_of, sums_of_chunk};
+ghost use Rattle.early_engine.specs.Grids.{FitsFiles, IsOfSums, IsOnGrid, bytes_in};
 ghost use Rattle.early_engine.specs.Making.{IsMade, IsUnmade, StopShows};
-ghost use Rattle.early_engine.specs.Passes.{Place, feeds_ahead, file_of, kind_of, passes};
-ghost use Rattle.early_engine.specs.Steps.{AreHot, IsPassed};
+ghost use Rattle.early_engine.specs.Passes.{Place, feeds_ahead, file_of, first_row, kind_of, of_secondary, passes, places};
+ghost use Rattle.early_engine.specs.Steps.{AreEarly, IsMadeBelow, blocks_in};
 
-use crate::column::{feed_full, feed_rest};
+use crate::column::feed_column;
 use crate::kind::{feeds_ahead, kind_of};
 use crate::layout::Layout;
 use crate::options::RunOptions;
-use crate::part::make_part;
+use crate::part::{Stop, close_part};
 use crate::room::Room;
-use active_sets::ActiveParts;
 use io_account::Counts;
-use lumos_base::{Edge, Vertex};
+use lumos_base::Fixed;
 use lumos_depot::{Depot, FileKind};
 use lumos_law::VertexProgram;
 use lumos_report::Kind;
 use value_files::FileFault;
+use windows::{Coded, Windows};
 
-// Why an iteration isn't made.
-#[derive(Clone, Copy, Debug, PartialEq, Eq, Drop)]
-pub(crate) enum Stop {
-    // A block wasn't read.
-    File(FileFault),
-    // This vertex is over, and none below it.
-    Over(Vertex),
+// Begins with the sums of part j: with those of nothing in a full iteration, and in a fed one with the early sums.
+fn begin_sums<G: VertexProgram, D: Depot>(
+    kind: Kind,
+    j: u32,
+    depot: &mut D,
+    windows: &mut Windows<G>,
+) -> Result<(), FileFault>
+    requires attached { IsSome (D.attached depot.old) }
+    requires column { j < windows.old.cut.parts }
+    requires sized { IsSized ⟦<G as Coded>⟧.coding windows.old (D.holds depot.old) }
+    ensures sums { (program : G) (edges : List Edge) (state : ℕ → G.Value)
+        → (kind ≡ Kind.Fed → StoresEarly ⟦<G as Coded>⟧.coding (G.model program) windows.old (D.holds depot.old) j state (early_edges edges (chunk_of windows.old.cut) j))
+        → OnOk result (HasSums (G.model program) windows.new j state (column edges (chunk_of windows.old.cut) j (first_row kind j))) }
+    ensures next { (program : G) (state : ℕ → G.Value) → kind ≡ Kind.Full → HasNext (G.model program) windows.new j state [] }
+    ensures alone { windows.new ≡ record windows.old { sums_part = j; sums = windows.new.sums; next_sums = windows.new.next_sums } }
+    ensures stays { Stays ⟦<G as Coded>⟧.coding windows.old (D.holds depot.old) windows.new (D.holds depot.new) }
+    ensures intact { (program : G) (edges : List Edge) (state : ℕ → G.Value)
+        → (kind ≡ Kind.Fed → StoresEarly ⟦<G as Coded>⟧.coding (G.model program) windows.old (D.holds depot.old) j state (early_edges edges (chunk_of windows.old.cut) j)) → IfErr result IsIntact }
+    ensures broken { IfErr result (IsOfSums ⟦<G as Coded>⟧.coding windows.old kind) }
+    ensures taken { OnOk result (RoseBy (D.taken depot.old FileKind.Sums) (D.taken depot.new FileKind.Sums) (of_secondary kind (sums_of_chunk windows.old.cut G.Sum.WIDTH j))) }
+    ensures reads { Reads D.holds D.taken D.stored D.faults D.attached FileKind.Sums depot.old depot.new }
+    ensures full { kind ≡ Kind.Full → depot.new ≡ depot.old }
+    ensures cause { result ≡ Err FileFault.Depot → Rose (D.faults depot.old) (D.faults depot.new) }
+{
+    match kind {
+        Kind::Full => {
+            windows.clear_sums(j);
+            Ok(())
+        }
+        Kind::Fed => windows.load_early(depot, j),
+    }
 }
 
-// Makes the values after a full iteration of those before it, marks which parts are hot in it, and counts its blocks and the
-// values that moved. Where it feeds ahead, it leaves the early sums of the next iteration. It stops at the first vertex that
-// is over.
-fn full_iteration<G: VertexProgram, D: Depot>(
-    program: &G,
-    layout: &Layout,
+// Stores the early sums of part j, where an iteration feeds ahead.
+fn leave_sums<G: VertexProgram, D: Depot>(
     ahead: bool,
+    j: u32,
     depot: &mut D,
-    room: &mut [Edge],
-    before: &[G::Value],
-    sums: &mut [G::Sum],
-    early: &mut [G::Sum],
-    after: &mut [G::Value],
-    active: &mut ActiveParts,
-) -> Result<Counts, Stop>
+    windows: &mut Windows<G>,
+) -> Result<(), FileFault>
     requires attached { IsSome (D.attached depot.old) }
-    requires laid { IsLaid layout.now.parts layout.now.table (length room.old) }
-    requires inside { HasBlocks layout.now.table (D.holds depot.old) }
-    requires before_fits { length before.now ≡ layout.now.parts.vertices }
-    requires after_fits { length after.old ≡ layout.now.parts.vertices }
-    requires sums_fit { chunk_of layout.now.parts ≤ length sums.old }
-    requires early_fits { length early.old ≡ layout.now.parts.vertices }
-    requires active_fits { active.old.parts ≡ layout.now.parts.parts }
-    ensures active_fits { active.new.parts ≡ active.old.parts }
-    ensures was_hot { active.new.was_hot ≡ active.old.was_hot }
-    ensures made { (edges : List Edge) (t : ℕ) → IsOnGrid edges layout.now.parts layout.now.table (D.holds depot.old)
-        → IsChunk (values (G.model program.now) edges t) 0 before.now → AreHot (G.model program.now) edges layout.now.parts layout.now.parts.parts t active.old.was_hot
-        → MatchResult result (IsPassed (G.model program.now) edges layout.now.parts ahead t after.new early.new active.new.is_hot)
-        (IsUnmade (G.model program.now) edges layout.now.parts t) }
-    ensures gone { (size : Place → ℕ) (need : Place → Bool)
-        → ((i j : ℕ) → i < layout.now.parts.parts → j < layout.now.parts.parts → AreOf layout.now.table active.old.was_hot active.new.is_hot ahead size need i j)
-        → IfOk result (HasGone Kind.Full size need (passes Kind.Full layout.now.parts.parts) (D.taken depot.old FileKind.Primary) (D.taken depot.new FileKind.Primary)) }
-    ensures stop { IfErr result (StopShows G.Value.is_in_range G.Sum.is_in_range (G.model program.now) Kind.Full layout.now.parts layout.now.table) }
-    ensures most { D.taken depot.new FileKind.Primary ≤ D.taken depot.old FileKind.Primary + bytes_in Kind.Full layout.now.table }
-    ensures reads { Reads D.holds D.taken D.stored D.faults D.attached FileKind.Primary depot.old depot.new }
-    ensures cause { result ≡ Err (Stop.File FileFault.Depot) → Rose (D.faults depot.old) (D.faults depot.new) }
+    requires column { j ≡ windows.old.sums_part }
+    requires sized { IsSized ⟦<G as Coded>⟧.coding windows.old (D.holds depot.old) }
+    ensures stored_sums { IfSome (D.holds depot.old FileKind.Sums) (λ file. (program : G) (state : ℕ → G.Value) (edges : List Edge) → ahead ≡ true → HasNext (G.model program) windows.old j state edges
+        → OnOk result (StoresEarly ⟦<G as Coded>⟧.coding (G.model program) windows.new (D.holds depot.new) j state edges)) }
+    ensures same { windows.new ≡ windows.old }
+    ensures stays { StaysButSums ⟦<G as Coded>⟧.coding j windows.old (D.holds depot.old) windows.new (D.holds depot.new) }
+    ensures sized { IsSized ⟦<G as Coded>⟧.coding windows.new (D.holds depot.new) }
+    ensures intact { IfErr result (λ fault. fault ≡ FileFault.Depot) }
+    ensures stored { OnOk result (RoseBy (D.stored depot.old FileKind.Sums) (D.stored depot.new FileKind.Sums) (cond ahead (sums_of_chunk windows.old.cut G.Sum.WIDTH j) 0)) }
+    ensures stores { Stores D.holds D.taken D.stored D.faults D.attached FileKind.Sums depot.old depot.new }
+    ensures idle { ahead ≡ false → depot.new ≡ depot.old }
+    ensures cause { result ≡ Err FileFault.Depot → Rose (D.faults depot.old) (D.faults depot.new) }
 {
-    let mut counts = Counts::zero();
-    for j in 0..layout.parts.parts() {
-        let range = layout.parts.range_of(j);
-        let first = range.first as usize;
-        let past = range.past as usize;
-        let here = &mut sums[..past - first];
-        let next = &mut early[first..past];
-        match feed_full(
-            program,
-            layout,
-            ahead,
-            active,
-            depot,
-            j,
-            room,
-            before,
-            after,
-            here,
-            next,
-            &mut counts,
-        ) {
-            Ok(()) => {}
-            Err(fault) => return Err(Stop::File(fault)),
-        }
-        match make_part(program, layout, j, before, here, after) {
-            Ok(end) => {
-                active.mark(j, end.hot);
-                counts.add_moved(end.moved);
-            }
-            Err(vertex) => return Err(Stop::Over(vertex)),
-        }
+    if ahead {
+        return windows.store_early(depot, j);
     }
-    Ok(counts)
+    Ok(())
 }
 
-// Makes the values after a fed iteration of those before it and of the early sums, with which it goes on, marks which parts
-// are hot in it, and counts its blocks and the values that moved. It stops at the first vertex that is over.
-fn fed_iteration<G: VertexProgram, D: Depot>(
+// Makes the values of part j after iteration t: its sums by the blocks of its column, and its close. Where the iteration
+// feeds ahead, it leaves the early sums of the part for the next one. The parts below j are made. It counts the blocks of the
+// column and the values that moved.
+fn make_column<G: VertexProgram, D: Depot>(
     program: &G,
     layout: &Layout,
+    kind: Kind,
+    ahead: bool,
+    t: u32,
+    j: u32,
     depot: &mut D,
-    room: &mut [Edge],
-    before: &[G::Value],
-    early: &mut [G::Sum],
-    after: &mut [G::Value],
-    active: &mut ActiveParts,
-) -> Result<Counts, Stop>
+    room: &mut Room<G>,
+    counts: &mut Counts,
+) -> Result<(), Stop>
     requires attached { IsSome (D.attached depot.old) }
-    requires laid { IsLaid layout.now.parts layout.now.table (length room.old) }
-    requires inside { HasBlocks layout.now.table (D.holds depot.old) }
-    requires before_fits { length before.now ≡ layout.now.parts.vertices }
-    requires after_fits { length after.old ≡ layout.now.parts.vertices }
-    requires early_fits { length early.old ≡ layout.now.parts.vertices }
-    requires active_fits { active.old.parts ≡ layout.now.parts.parts }
-    ensures active_fits { active.new.parts ≡ active.old.parts }
-    ensures was_hot { active.new.was_hot ≡ active.old.was_hot }
-    ensures made { (edges : List Edge) (t : ℕ) → IsOnGrid edges layout.now.parts layout.now.table (D.holds depot.old)
-        → IsChunk (values (G.model program.now) edges t) 0 before.now → AreHot (G.model program.now) edges layout.now.parts layout.now.parts.parts t active.old.was_hot
-        → IsChunk (early_sum (G.model program.now) edges (chunk_of layout.now.parts) (values (G.model program.now) edges t)) 0 early.old
-        → MatchResult result (IsPassed (G.model program.now) edges layout.now.parts false t after.new early.new active.new.is_hot)
-        (IsUnmade (G.model program.now) edges layout.now.parts t) }
-    ensures gone { (are : List Bool) (size : Place → ℕ) (need : Place → Bool)
-        → ((i j : ℕ) → i < layout.now.parts.parts → j < layout.now.parts.parts → AreOf layout.now.table active.old.was_hot are false size need i j)
-        → IfOk result (HasGone Kind.Fed size need (passes Kind.Fed layout.now.parts.parts) (D.taken depot.old FileKind.Secondary) (D.taken depot.new FileKind.Secondary)) }
-    ensures stop { IfErr result (StopShows G.Value.is_in_range G.Sum.is_in_range (G.model program.now) Kind.Fed layout.now.parts layout.now.table) }
-    ensures most { D.taken depot.new FileKind.Secondary ≤ D.taken depot.old FileKind.Secondary + bytes_in Kind.Fed layout.now.table }
-    ensures reads { Reads D.holds D.taken D.stored D.faults D.attached FileKind.Secondary depot.old depot.new }
+    requires some { 0 < t }
+    requires column { j < layout.now.parts.parts }
+    requires kinds { ahead ≡ true → kind ≡ Kind.Full }
+    requires active_fits { room.old.active.parts ≡ layout.now.parts.parts }
+    requires fits { FitsFiles ⟦<G as Coded>⟧.coding layout.now.parts layout.now.table room.old.windows (D.holds depot.old) }
+    requires few { blocks_in counts.old ≤ 65280 }
+    requires few_moved { counts.old.moved ≤ 268435456 }
+    ensures active_fits { room.new.active.parts ≡ room.old.active.parts }
+    ensures was_hot { room.new.active.was_hot ≡ room.old.active.was_hot }
+    ensures marked { (i : ℕ) → i < j → hot_at room.new.active.is_hot i ≡ hot_at room.old.active.is_hot i }
+    ensures few { blocks_in counts.new ≤ blocks_in counts.old + 256 }
+    ensures few_moved { counts.new.moved ≤ counts.old.moved + chunk_count room.old.windows j }
+    ensures made { (edges : List Edge) (u : ℕ) → IsOnGrid edges layout.now.parts layout.now.table (D.holds depot.old) → t ≡ suc u
+        → IsMadeBelow ⟦<G as Coded>⟧.coding (G.model program.now) edges layout.now.parts j u room.old.windows (D.holds depot.old) room.old.active.was_hot room.old.active.is_hot counts.old.moved
+        → AreEarly ⟦<G as Coded>⟧.coding (G.model program.now) edges layout.now.parts kind ahead j u room.old.windows (D.holds depot.old)
+        → MatchResult result (λ done. IsMadeBelow ⟦<G as Coded>⟧.coding (G.model program.now) edges layout.now.parts (j + 1) u room.new.windows (D.holds depot.new) room.new.active.was_hot room.new.active.is_hot counts.new.moved)
+        (IsUnmade (G.model program.now) edges layout.now.parts u) }
+    ensures early { (edges : List Edge) (u : ℕ) → IsOnGrid edges layout.now.parts layout.now.table (D.holds depot.old) → t ≡ suc u
+        → IsMadeBelow ⟦<G as Coded>⟧.coding (G.model program.now) edges layout.now.parts j u room.old.windows (D.holds depot.old) room.old.active.was_hot room.old.active.is_hot counts.old.moved
+        → AreEarly ⟦<G as Coded>⟧.coding (G.model program.now) edges layout.now.parts kind ahead j u room.old.windows (D.holds depot.old)
+        → OnOk result (AreEarly ⟦<G as Coded>⟧.coding (G.model program.now) edges layout.now.parts kind ahead (j + 1) u room.new.windows (D.holds depot.new)) }
+    ensures room { IsSameRoom room.old.windows room.new.windows }
+    ensures fits { FitsFiles ⟦<G as Coded>⟧.coding layout.now.parts layout.now.table room.new.windows (D.holds depot.new) }
+    ensures gone { (size : Place → ℕ) (need : Place → Bool) (loads : Place → ℕ) (bs : List Place) (beside : Beside) (taken stored : FileKind → ℕ)
+        → ((i : ℕ) → i < layout.now.parts.parts → AreOf layout.now.table (load_bytes ⟦<G as Coded>⟧.coding room.old.windows) room.old.active.was_hot room.old.active.is_hot ahead size need loads i j)
+        → HasGone kind size need loads bs beside taken stored (D.taken depot.old) (D.stored depot.old) counts.old
+        → OnOk result (HasGone kind size need loads (bs ++ places kind layout.now.parts.parts j)
+        (and_column kind ahead (load_bytes ⟦<G as Coded>⟧.coding room.old.windows j) (sums_of_chunk room.old.windows.cut G.Sum.WIDTH j) beside) taken stored (D.taken depot.new) (D.stored depot.new) counts.new) }
+    ensures stop { IfErr result (StopShows G.Value.is_in_range G.Sum.is_in_range ⟦<G as Coded>⟧.coding (G.model program.now) room.old.windows kind layout.now.table) }
+    ensures most { D.taken depot.new (file_of kind) ≤ D.taken depot.old (file_of kind) + 12 * edges_in_rows layout.now.table j (first_row kind j) (layout.now.parts.parts - first_row kind j) }
+    ensures touches { Touches D.holds D.taken D.stored D.faults D.attached (takes_of kind) (stores_of ahead) depot.old depot.new }
     ensures cause { result ≡ Err (Stop.File FileFault.Depot) → Rose (D.faults depot.old) (D.faults depot.new) }
 {
-    let mut counts = Counts::zero();
-    for j in 0..layout.parts.parts() {
-        let range = layout.parts.range_of(j);
-        let here = &mut early[range.first as usize..range.past as usize];
-        match feed_rest(
-            program,
-            layout,
-            active,
-            depot,
-            j,
-            room,
-            before,
-            here,
-            &mut counts,
-        ) {
-            Ok(()) => {}
-            Err(fault) => return Err(Stop::File(fault)),
-        }
-        match make_part(program, layout, j, before, here, after) {
-            Ok(end) => {
-                active.mark(j, end.hot);
-                counts.add_moved(end.moved);
-            }
-            Err(vertex) => return Err(Stop::Over(vertex)),
-        }
+    match begin_sums(kind, j, depot, &mut room.windows) {
+        Ok(()) => {}
+        Err(fault) => return Err(Stop::File(fault)),
     }
-    Ok(counts)
+    let active = &room.active;
+    match feed_column(
+        program,
+        layout,
+        kind,
+        ahead,
+        t,
+        j,
+        active,
+        depot,
+        &mut room.windows,
+        counts,
+    ) {
+        Ok(()) => {}
+        Err(fault) => return Err(Stop::File(fault)),
+    }
+    match close_part(program, layout, t, j, depot, room, counts) {
+        Ok(()) => {}
+        Err(stop) => return Err(stop),
+    }
+    match leave_sums(ahead, j, depot, &mut room.windows) {
+        Ok(()) => Ok(()),
+        Err(fault) => Err(Stop::File(fault)),
+    }
 }
 
-// Makes iteration t of a run: the values after it of those before it, and, where it feeds ahead, the early sums of the
-// next iteration. It marks which parts are hot in it, counts its blocks and the values that moved, and stops at the first
-// vertex that is over.
+// Makes iteration t of a run: the values after it of those before it, and, where it feeds ahead, the early sums of the next
+// iteration. It marks which parts are hot in it, counts its blocks and the values that moved, and stops at the first vertex
+// that is over.
 pub(crate) fn iterate<G: VertexProgram, D: Depot>(
     program: &G,
     layout: &Layout,
@@ -185,50 +186,38 @@ pub(crate) fn iterate<G: VertexProgram, D: Depot>(
     room: &mut Room<G>,
 ) -> Result<Counts, Stop>
     requires attached { IsSome (D.attached depot.old) }
-    requires inside { HasBlocks layout.now.table (D.holds depot.old) }
     requires some { 0 < t }
     requires few { t ≤ options.iterations }
-    requires fits { IsRoomy layout.now.parts layout.now.table (vec_len room.old.before) (vec_len room.old.after) (vec_len room.old.sums) (vec_len room.old.early) (vec_len room.old.edges) room.old.active.parts }
-    ensures fits { IsRoomy layout.now.parts layout.now.table (vec_len room.new.before) (vec_len room.new.after) (vec_len room.new.sums) (vec_len room.new.early) (vec_len room.new.edges) room.new.active.parts }
+    requires active_fits { room.old.active.parts ≡ layout.now.parts.parts }
+    requires fits { FitsFiles ⟦<G as Coded>⟧.coding layout.now.parts layout.now.table room.old.windows (D.holds depot.old) }
+    ensures some { 0 < layout.now.parts.parts }
+    ensures active_fits { room.new.active.parts ≡ room.old.active.parts }
     ensures was_hot { room.new.active.was_hot ≡ room.old.active.was_hot }
-    ensures made { (edges : List Edge) (done : ℕ) → IsOnGrid edges layout.now.parts layout.now.table (D.holds depot.old) → t ≡ done + 1
-        → IsKept (G.model program.now) edges layout.now.parts options.mode options.iterations done room.old.before.items room.old.early.items room.old.active.was_hot
-        → MatchResult result (λ counts. IsMade (G.model program.now) edges layout.now.parts options.mode options.iterations done room.new.after.items room.new.early.items room.new.active.is_hot counts)
-        (IsUnmade (G.model program.now) edges layout.now.parts done) }
-    ensures gone { (size : Place → ℕ) (need : Place → Bool)
-        → ((i j : ℕ) → i < layout.now.parts.parts → j < layout.now.parts.parts → AreOf layout.now.table room.old.active.was_hot room.new.active.is_hot (feeds_ahead options.mode options.iterations t) size need i j)
-        → IfOk result (HasGone (kind_of options.mode t) size need (passes (kind_of options.mode t) layout.now.parts.parts)
-        (D.taken depot.old (file_of (kind_of options.mode t))) (D.taken depot.new (file_of (kind_of options.mode t)))) }
-    ensures stop { IfErr result (StopShows G.Value.is_in_range G.Sum.is_in_range (G.model program.now) (kind_of options.mode t) layout.now.parts layout.now.table) }
+    ensures made { (edges : List Edge) (u : ℕ) → IsOnGrid edges layout.now.parts layout.now.table (D.holds depot.old) → t ≡ suc u
+        → IsKept ⟦<G as Coded>⟧.coding (G.model program.now) edges layout.now.parts options.mode options.iterations u room.old.windows (D.holds depot.old) room.old.active.was_hot
+        → MatchResult result (IsMade (G.model program.now) ⟦<G as Coded>⟧.coding edges layout.now.parts options.mode options.iterations u room.new.windows (D.holds depot.new) room.new.active.is_hot)
+        (IsUnmade (G.model program.now) edges layout.now.parts u) }
+    ensures room { IsSameRoom room.old.windows room.new.windows }
+    ensures fits { FitsFiles ⟦<G as Coded>⟧.coding layout.now.parts layout.now.table room.new.windows (D.holds depot.new) }
+    ensures gone { (size : Place → ℕ) (need : Place → Bool) (loads : Place → ℕ)
+        → ((i j : ℕ) → i < layout.now.parts.parts → j < layout.now.parts.parts
+        → AreOf layout.now.table (load_bytes ⟦<G as Coded>⟧.coding room.old.windows) room.old.active.was_hot room.new.active.is_hot (feeds_ahead options.mode options.iterations t) size need loads i j)
+        → IfOk result (HasGone (kind_of options.mode t) size need loads (passes (kind_of options.mode t) layout.now.parts.parts)
+        (beside_of layout.now.parts G.Value.WIDTH G.Sum.WIDTH room.old.windows.pinned (kind_of options.mode t) (feeds_ahead options.mode options.iterations t) layout.now.parts.parts)
+        (D.taken depot.old) (D.stored depot.old) (D.taken depot.new) (D.stored depot.new)) }
+    ensures stop { IfErr result (StopShows G.Value.is_in_range G.Sum.is_in_range ⟦<G as Coded>⟧.coding (G.model program.now) room.old.windows (kind_of options.mode t) layout.now.table) }
     ensures most { D.taken depot.new (file_of (kind_of options.mode t)) ≤ D.taken depot.old (file_of (kind_of options.mode t)) + bytes_in (kind_of options.mode t) layout.now.table }
-    ensures reads { Reads D.holds D.taken D.stored D.faults D.attached (file_of (kind_of options.mode t)) depot.old depot.new }
+    ensures touches { Touches D.holds D.taken D.stored D.faults D.attached (takes_of (kind_of options.mode t)) (stores_of (feeds_ahead options.mode options.iterations t)) depot.old depot.new }
     ensures cause { result ≡ Err (Stop.File FileFault.Depot) → Rose (D.faults depot.old) (D.faults depot.new) }
 {
-    match kind_of(options.mode, t) {
-        Kind::Full => {
-            let ahead = feeds_ahead(options.mode, options.iterations, t);
-            full_iteration(
-                program,
-                layout,
-                ahead,
-                depot,
-                &mut room.edges,
-                &room.before,
-                &mut room.sums,
-                &mut room.early,
-                &mut room.after,
-                &mut room.active,
-            )
+    let kind = kind_of(options.mode, t);
+    let ahead = feeds_ahead(options.mode, options.iterations, t);
+    let mut counts = Counts::zero();
+    for j in 0..layout.parts.parts() {
+        match make_column(program, layout, kind, ahead, t, j, depot, room, &mut counts) {
+            Ok(()) => {}
+            Err(stop) => return Err(stop),
         }
-        Kind::Fed => fed_iteration(
-            program,
-            layout,
-            depot,
-            &mut room.edges,
-            &room.before,
-            &mut room.early,
-            &mut room.after,
-            &mut room.active,
-        ),
     }
+    Ok(counts)
 }

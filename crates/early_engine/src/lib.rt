@@ -7,7 +7,6 @@ mod begin;
 mod block;
 mod column;
 mod engine;
-mod feed;
 mod iteration;
 mod kind;
 mod laws;
@@ -18,6 +17,7 @@ mod part;
 mod room;
 mod run;
 mod turning;
+mod visit;
 mod write;
 
 pub use engine::Engine;

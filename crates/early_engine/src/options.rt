@@ -29,14 +29,14 @@ pub struct RunOptions {
     pub iterations: u32,
     pub mode: Mode,
     pub show: Show,
-    /// How many bytes the values and sums in memory may take. It isn't looked at yet.
+    /// How many bytes the values and sums in memory may take.
     pub budget: u64,
 }
 
 /// Why an engine isn't opened.
 #[derive(Clone, Copy, Debug, PartialEq, Eq, Drop)]
 pub enum OpenFault {
-    /// The values and sums need more bytes than the budget gives. It doesn't come yet.
+    /// The windows over values and sums need more bytes than the budget has.
     BudgetTooSmall {
         need: u64,
         given: u64,

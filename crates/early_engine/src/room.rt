@@ -1,18 +1,12 @@
-// The lists of an engine.
+// What an engine keeps in memory.
 
 use active_sets::ActiveParts;
-use lumos_base::Edge;
 use lumos_law::VertexProgram;
+use windows::Windows;
 
-/// The values of all vertices before an iteration, room for those after it and for the sums of a part, the early sums of
-/// all vertices, which an iteration that feeds ahead leaves for the next one, room for the edges of the longest block, and
-/// which parts are hot.
+/// The windows over values and sums, and which parts are hot.
 #[derive(Drop)]
 pub(crate) struct Room<G: VertexProgram> {
-    pub(crate) before: Vec<G::Value>,
-    pub(crate) after: Vec<G::Value>,
-    pub(crate) sums: Vec<G::Sum>,
-    pub(crate) early: Vec<G::Sum>,
-    pub(crate) edges: Vec<Edge>,
+    pub(crate) windows: Windows<G>,
     pub(crate) active: ActiveParts,
 }

@@ -1,7 +1,8 @@
 // Whole runs and builds over objects in memory: printed texts, files, and the bytes that are taken.
-use crate::rows::{HERE, Row, check_over, check_table, perform, row_of};
+use crate::rows::{HERE, Row, check, check_over, check_table, perform, row_of};
 use lumos_depot::{FileKind, MemDepot};
 use lumos_top::Status;
+use std::alloc::Global;
 use std::process::Abort;
 use std::test::Fail;
 
@@ -28,6 +29,15 @@ iteration 2 fed primary 0 secondary 3 skipped 0 empty 0 moved 0
 2 0
 3 3
 still 2
+|";
+
+// The build of its grid.
+pub const FOUR_BUILT: &str = "\
+four edges|build --parts 2|0 2
+2 1
+3 2
+0 1
+|grid vertices 4 edges 4 parts 2
 |";
 
 // Runs and a build in the working directory.
@@ -224,13 +234,13 @@ fn runs_and_builds_print_their_reports(rt: HostRuntime) -> Result<(), Fail> {
 }
 
 // A build takes of Primary what it copies into Secondary, here 36 bytes; then a full iteration takes the blocks that it reads of
-// Primary, and a fed one those of Secondary. Nothing is stored in Sums.
+// Primary, and a fed one those of Secondary. Early sums are stored where an iteration feeds ahead, and taken by the next one.
 #[test]
 fn a_fed_iteration_takes_nothing_of_primary(rt: HostRuntime) -> Result<(), Fail> {
-    for (words, primary, secondary) in [
-        ("run components --parts 2 --iterations 5", 36 + 48, 36),
-        ("run components --parts 2 --mode plain", 36 + 48 + 48, 0),
-        ("run components --parts 2 --iterations 1", 36 + 48, 0),
+    for (words, primary, secondary, sums) in [
+        ("run components --parts 2 --iterations 5", 36 + 48, 36, 32),
+        ("run components --parts 2 --mode plain", 36 + 48 + 48, 0, 0),
+        ("run components --parts 2 --iterations 1", 36 + 48, 0, 0),
     ] {
         let row = Row {
             words,
@@ -240,7 +250,29 @@ fn a_fed_iteration_takes_nothing_of_primary(rt: HostRuntime) -> Result<(), Fail>
         perform(&rt, rt.alloc(), &row, &mut depot)?;
         assert_eq!(rt; depot.taken_of(FileKind::Primary), primary, "{words}");
         assert_eq!(rt; depot.taken_of(FileKind::Secondary), secondary, "{words}");
-        assert_eq!(rt; depot.stored_of(FileKind::Sums), 0, "{words}");
+        assert_eq!(rt; depot.stored_of(FileKind::Sums), sums, "{words}");
+        assert_eq!(rt; depot.taken_of(FileKind::Sums), sums, "{words}");
+    }
+    Ok(())
+}
+
+// Runs components over the four edges under a budget.
+fn check_under(rt: &impl Abort, alloc: Global, budget: u64) -> Result<(), Fail> {
+    let words = format!(in alloc; "run components --parts 2 --iterations 5 --budget {budget}")
+        .ok()
+        .expect(rt, "memory");
+    let row = Row {
+        words: words.as_str(),
+        ..row_of(rt, &HERE, FOUR)
+    };
+    check(rt, alloc, &row)
+}
+
+// The report is the same whatever the budget is, from what the windows need up to both chunks in memory.
+#[test]
+fn a_budget_changes_no_report(rt: HostRuntime) -> Result<(), Fail> {
+    for budget in 68..141u64 {
+        check_under(&rt, rt.alloc(), budget)?;
     }
     Ok(())
 }

@@ -67,7 +67,7 @@ four fields|run components|0 1
 ||lumos: input: line 2: missing target
 ";
 
-// Lists that are too long.
+// Lists that are too long, and a budget that is too small.
 const LONG: &str = "\
 edges|run components --max-edges 2|0 1
 1 2
@@ -78,6 +78,9 @@ edges|run components --max-edges 2|0 1
 ||lumos: limit: edges 2
 @bytes|run components --max-bytes 3|0 1
 ||lumos: limit: bytes 3
+@the budget|run components --parts 2 --budget 101|0 4
+3 1
+||lumos: limit: budget needs 102 given 101
 ";
 
 // Events that aren't legal.

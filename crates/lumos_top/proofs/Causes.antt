@@ -47,18 +47,21 @@ run_read by.Memory is = cc
 run_read by.Depot is = cc
 run_read by.Write is = cc
 run_read (by.Damaged damage) is = cc
+run_read (by.BudgetTooSmall need given) is = cc
 
 run_depot : (why : RunStop) → command_stop why ≡ stop.Outside outside.Depot → why ≡ by.Depot
 run_depot by.Memory is = absurd (cc)
 run_depot by.Depot is = refl
 run_depot by.Write is = absurd (cc)
 run_depot (by.Damaged damage) is = absurd (cc)
+run_depot (by.BudgetTooSmall need given) is = absurd (cc)
 
 run_write : (why : RunStop) → command_stop why ≡ stop.Outside outside.Write → why ≡ by.Write
 run_write by.Memory is = absurd (cc)
 run_write by.Depot is = absurd (cc)
 run_write by.Write is = refl
 run_write (by.Damaged damage) is = absurd (cc)
+run_write (by.BudgetTooSmall need given) is = absurd (cc)
 
 why_is : (why other : Stop) → ◌≡◌ {A = Result Completed Stop} (Err why) (Err other) → why ≡ other
 why_is why other is = cc

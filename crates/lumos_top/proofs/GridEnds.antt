@@ -1,7 +1,8 @@
 -- What a command over a grid comes to.
 use Rattle.std.proofs.Common.{◌≡◌, ◌≤◌, ◌<◌, inl, inr, ℕ, true, false, List, [], Option, Some, None, Result, Ok, Err, IsErrOf, IsOk, IsSome, is_some, length, refl, sym, ap, subst, ◌∙◌, arith}
 use Rattle.std.specs.Option.{option_map}
-use Rattle.std.specs.Prelude.{IfErr, IfOk, IfSome, OnOk, unwrap_or}
+use Rattle.std.proofs.lemmas.Bool.{le-ltb, lt-ltb}
+use Rattle.std.specs.Prelude.{IfErr, IfOk, IfSome, OnOk, unwrap_or, nat_lt, if◌then◌else◌}
 use Rattle.lumos_base.specs.declared.records.Edge.{Edge}
 use Rattle.lumos_depot.specs.Files.{Same, SameBut}
 use Rattle.lumos_depot.specs.Streams.{AppendsFront, Writes, after_told}
@@ -13,7 +14,7 @@ use Rattle.edge_text.specs.declared.fault.TextLimits.{TextLimits}
 use Rattle.grid_format.specs.Checks.{GridFiles, head_of}
 use Rattle.grid_format.specs.Grid.{HasGrid, IsRead, grid}
 use Rattle.grid_format.specs.Outside.{Holds}
-use Rattle.lumos_depot.specs.Steps.{Reads, RoseBy}
+use Rattle.lumos_depot.specs.Steps.{RoseBy}
 use Rattle.grid_format.specs.declared.head.GridInfo.{GridInfo}
 use Rattle.grid_build.specs.Built.{BuildsAs, HasBuilt, HasFiles, IsBuilt}
 use Rattle.grid_build.specs.declared.options.BuildFault.{BuildFault}
@@ -21,16 +22,11 @@ use Rattle.grid_build.specs.declared.options.BuildFault.TheVariants as build_fau
 use Rattle.grid_build.specs.Outside.{LeavesRuns as BuildLeaves}
 use Rattle.grid_build.proofs.Building.{AreLimits, list_within}
 use Rattle.lumos_depot.proofs.StepLemmas.{rose_then}
-use Rattle.lumos_report.specs.declared.records.Kind.{Kind}
-use Rattle.lumos_report.specs.declared.records.Kind.TheVariants.{Full, Fed}
-use Rattle.early_engine.specs.Passes.{file_of, kind_of}
-use Rattle.early_engine.specs.Runs.{Streams}
-use Rattle.early_engine.specs.declared.options.Mode.{Mode}
-use Rattle.lumos_top.specs.Answers.{Did, copied_bytes, did_build, did_run, done_with, ran_as, stated_parts}
+use Rattle.lumos_top.specs.Answers.{Built, Did, Halted, Ran, built_head, built_on, copied_bytes, did_build, did_run, done_with, need_in, ran_as, ran_on, stated_parts}
 use Rattle.lumos_top.specs.Building.{BuildStops, IsGridOf}
-use Rattle.lumos_top.specs.Ends.{Ends, HasDone, done_status}
+use Rattle.lumos_top.specs.Ends.{Ends, HasDone, IsBeforeRun, done_status, end_status}
 use Rattle.lumos_top.specs.Report.{grid_line}
-use Rattle.lumos_top.specs.Running.{DamageShown, EndShown, IsOverAt, IsOverIn, IsReportOf, IsWrongIn, Leaves, RoseBoth, RunTakes, command_stop}
+use Rattle.lumos_top.specs.Running.{DamageShown, EndShown, IsOverAt, IsOverIn, IsReportOf, IsTooSmall, IsWithin, IsWrongOf, Leaves, LeavesGrid, RoseRun, RunMoves, command_stop}
 use Rattle.lumos_top.specs.Sides.{InputEnds, IsMoved, LeavesRuns, NoMeta, SameGrid, Sides, WhereTold}
 use Rattle.lumos_top.specs.Stops.{ending_line, ending_status}
 use Rattle.lumos_top.specs.declared.running.RunStop.{RunStop}
@@ -39,6 +35,7 @@ use Rattle.lumos_top.specs.declared.status.Completed.{Completed}
 use Rattle.lumos_top.specs.declared.status.Completed.TheVariants.{Run, Build}
 use Rattle.lumos_top.specs.declared.status.Ended.{Ended}
 use Rattle.lumos_top.specs.declared.status.Ended.TheVariants as ended
+use Rattle.lumos_top.specs.declared.status.Refusal.TheVariants as refuse
 use Rattle.lumos_top.specs.declared.status.Status.TheVariants as status
 use Rattle.lumos_top.specs.declared.status.Outside.TheVariants as outside
 use Rattle.lumos_top.specs.declared.status.Stop.{Stop}
@@ -59,7 +56,7 @@ same_grid_files was is h = record {
 }
 
 -- a grid that wasn't built, and nothing was written
-unbuilt_ends : (command : Listed → Did) (limits : TextLimits) (p : ℕ) (bytes : List ℕ) (sides : Sides) (fault : BuildFault) (why : Stop) → BuildStops fault why → BuildsAs limits p bytes sides.left_old sides.left_new sides.was sides.is (Err fault) →
+unbuilt_ends : (command : Listed → Result Did Halted) (limits : TextLimits) (p : ℕ) (bytes : List ℕ) (sides : Sides) (fault : BuildFault) (why : Stop) → BuildStops fault why → BuildsAs limits p bytes sides.left_old sides.left_new sides.was sides.is (Err fault) →
     (IsErrOf {T = GridInfo} (Err fault) build_fault.NoMemory → NoMeta sides) → sides.new_out ≡ sides.old_out → Ends (done_with command (reading limits bytes)) sides (Err why)
 unbuilt_ends command limits p bytes sides (build_fault.Input faulty) why is h none same =
     subst (λ w. Ends (done_with command (reading limits bytes)) sides (Err w)) (sym is) (record { built = None; gives = ap (done_with command) h.0; same = same; files = same_grid_files sides.was sides.is h.1 })
@@ -75,7 +72,7 @@ unbuilt_ends command limits p bytes sides build_fault.Depot why is h none same =
 unbuilt_ends command limits p bytes sides build_fault.NoMemory why is h none same =
     subst (λ w. Ends (done_with command (reading limits bytes)) sides (Err w)) (sym is) (record { same = same; files = inl (none refl) })
 
-pub unbuilt_done : (command : Listed → Did) (limits : TextLimits) (p : ℕ) (sides : Sides) (fault : BuildFault) (why : Stop) → BuildStops fault why → HasBuilt limits p sides.left_old sides.left_new sides.was sides.is (Err fault) →
+pub unbuilt_done : (command : Listed → Result Did Halted) (limits : TextLimits) (p : ℕ) (sides : Sides) (fault : BuildFault) (why : Stop) → BuildStops fault why → HasBuilt limits p sides.left_old sides.left_new sides.was sides.is (Err fault) →
     (IsErrOf {T = GridInfo} (Err fault) build_fault.NoMemory → NoMeta sides) → sides.new_out ≡ sides.old_out → HasDone command limits sides (Err why)
 unbuilt_done command limits p sides fault why is h none same = record {
   input = h.bytes;
@@ -137,13 +134,13 @@ built_grid limits p bytes was is info all h some few b =
       };
     }
 
-still_files : (own : GridFiles) (was is now : FileKind → Option (List ℕ)) → Same is now → HasFiles own was is → HasFiles own was now
+still_files : (own : GridFiles) (was is now : FileKind → Option (List ℕ)) → LeavesGrid is now → HasFiles own was is → HasFiles own was now
 still_files own was is now same h = record {
-  meta_file = same Meta ∙ h.meta_file;
-  primary_file = same Primary ∙ h.primary_file;
-  secondary_file = same Secondary ∙ h.secondary_file;
-  info_file = same Info ∙ h.info_file;
-  spool_file = same Spool ∙ h.spool_file;
+  meta_file = same Meta refl ∙ h.meta_file;
+  primary_file = same Primary refl ∙ h.primary_file;
+  secondary_file = same Secondary refl ∙ h.secondary_file;
+  info_file = same Info refl ∙ h.info_file;
+  spool_file = same Spool refl ∙ h.spool_file;
 }
 
 -- the counters of what is kept for runs stand
@@ -193,7 +190,7 @@ read_whole sides bytes told ended = λ all is. ended (is ∙ ap Some (sym (told 
 
 -- a grid that was built, and its line was written
 module _ (limits : TextLimits) (words : BuildWords) (sides : Sides) (info : GridInfo) (h : WasBuilt limits (stated_parts words) sides.left_old sides.left_new sides.was sides.is sides.taken_was sides.taken_is info) where
-  pub built_done : Kept sides.taken_was sides.taken_is sides.stored_was sides.stored_is → sides.new_out ≡ after_told sides.old_out (grid_line info.vertices info.edges info.parts) → HasDone (did_build words) limits sides (Ok Build)
+  pub built_done : Kept sides.taken_was sides.taken_is sides.stored_was sides.stored_is → sides.new_out ≡ after_told sides.old_out (grid_line info.vertices info.edges info.parts) → HasDone (built_on words) limits sides (Ok Build)
   built_done kept wrote =
       let b = h.built.builds.0 in record {
         input = h.built.bytes;
@@ -201,7 +198,7 @@ module _ (limits : TextLimits) (words : BuildWords) (sides : Sides) (info : Grid
         entry = entry_of h.built.bytes sides h.built.told;
         ends = record {
           did = did_build words b.list;
-          gives = ap (done_with (did_build words)) b.is;
+          gives = ap (done_with (built_on words)) b.is;
           kind = refl;
           input = read_whole sides h.built.bytes h.built.told h.built.builds.1;
           shown = tt;
@@ -218,7 +215,7 @@ module _ (limits : TextLimits) (words : BuildWords) (sides : Sides) (info : Grid
         };
       }
 
-  pub built_cut : AppendsFront sides.old_out sides.new_out (grid_line info.vertices info.edges info.parts) → HasDone (did_build words) limits sides (Err (stop.Outside outside.Write))
+  pub built_cut : AppendsFront sides.old_out sides.new_out (grid_line info.vertices info.edges info.parts) → HasDone (built_on words) limits sides (Err (stop.Outside outside.Write))
   built_cut front =
       let b = h.built.builds.0 in record {
         input = h.built.bytes;
@@ -226,7 +223,7 @@ module _ (limits : TextLimits) (words : BuildWords) (sides : Sides) (info : Grid
         entry = entry_of h.built.bytes sides h.built.told;
         ends = record {
           did = did_build words b.list;
-          gives = ap (done_with (did_build words)) b.is;
+          gives = ap (done_with (built_on words)) b.is;
           front = subst (AppendsFront sides.old_out sides.new_out) (line_is limits h.built.bytes sides.was sides.is words info b) front;
           files = b.files;
         };
@@ -237,16 +234,39 @@ abbrev pub completed_run : Result Ended RunStop → Result Completed Stop
 completed_run (Ok end) = Ok (Run end)
 completed_run (Err why) = Err (command_stop why)
 
+-- a budget that is enough, and one that isn't
+fits : (own : Built) (did : Did) (need budget : ℕ) → need ≤ budget → ◌≡◌ {A = Result Did Halted} (if nat_lt budget need then Err (record { why = stop.Refused (refuse.BudgetTooSmall need budget); built = Some own }) else Ok did) (Ok did)
+fits own did need budget enough = let e : nat_lt budget need ≡ false = le-ltb budget need enough in rw e refl
+
+too_small : (own : Built) (did : Did) (need budget needed given : ℕ) → budget < need → needed ≡ need → given ≡ budget →
+    ◌≡◌ {A = Result Did Halted} (if nat_lt budget need then Err (record { why = stop.Refused (refuse.BudgetTooSmall need budget); built = Some own }) else Ok did) (Err (record { why = stop.Refused (refuse.BudgetTooSmall needed given); built = Some own }))
+too_small own did need budget needed given small needs gives = let e : nat_lt budget need ≡ true = lt-ltb budget need small in rw (e, needs, gives) refl
+
 -- A program ran over the grid that was built, between the build and the end.
-module _ (program : ProgramWords) (words : BuildWords) (iterate : IterWords) (limits : TextLimits) (sides : Sides) (mid : FileKind → Option (List ℕ)) (taken_mid : FileKind → ℕ) (info : GridInfo) (h : WasBuilt limits (stated_parts words) sides.left_old sides.left_new sides.was mid sides.taken_was taken_mid info) (same : Same mid sides.is) where
+module _ (program : ProgramWords) (words : BuildWords) (iterate : IterWords) (limits : TextLimits) (sides : Sides) (mid : FileKind → Option (List ℕ)) (taken_mid stored_mid : FileKind → ℕ) (info : GridInfo) (h : WasBuilt limits (stated_parts words) sides.left_old sides.left_new sides.was mid sides.taken_was taken_mid info) (same : LeavesGrid mid sides.is) where
   abbrev own_list : Listed
   own_list = h.built.builds.0.list
 
   abbrev own_did : Did
   own_did = did_run program words iterate own_list
 
-  own_gives : done_with (did_run program words iterate) (reading limits h.built.bytes) ≡ Ok own_did
-  own_gives = ap (done_with (did_run program words iterate)) h.built.builds.0.is
+  abbrev own_grid : Built
+  own_grid = record { list = own_list; parts = stated_parts words }
+
+  abbrev own_need : ℕ
+  own_need = need_in program (built_head own_grid)
+
+  own_reads : done_with (ran_on program words iterate) (reading limits h.built.bytes) ≡ ran_on program words iterate own_list
+  own_reads = ap (done_with (ran_on program words iterate)) h.built.builds.0.is
+
+  own_gives : own_need ≤ iterate.budget → done_with (ran_on program words iterate) (reading limits h.built.bytes) ≡ Ok own_did
+  own_gives enough = own_reads ∙ fits own_grid own_did own_need iterate.budget enough
+
+  own_within : (r : Result Ended RunStop) → IsWithin (need_in program info) iterate.budget r → IsWithin own_need iterate.budget r
+  own_within r within = subst (λ (i : GridInfo). IsWithin (need_in program i) iterate.budget r) h.built.builds.0.head within
+
+  abbrev own_ran : Ran
+  own_ran = ran_as program (stated_parts words) iterate own_list
 
   own_files : HasFiles (grid own_list.edges own_list.vertices (stated_parts words)) sides.was sides.is
   own_files = still_files _ sides.was mid sides.is same h.built.builds.0.files
@@ -254,55 +274,74 @@ module _ (program : ProgramWords) (words : BuildWords) (iterate : IterWords) (li
   told_still : IsSome (sides.was Meta) → IsSome (mid Meta)
   told_still told = told_before (sides.was Meta) (mid Meta) _ h.built.builds.0.files.meta_file told
 
-  both_moved : Kept sides.taken_was sides.taken_is sides.stored_was sides.stored_is → WhereTold mid (RoseBoth (ran_as program (stated_parts words) iterate own_list).moved.primary_taken (ran_as program (stated_parts words) iterate own_list).moved.secondary_taken taken_mid sides.taken_is) → IsMoved own_did.run own_did.moved sides
-  both_moved kept takes = record {
-    primary = λ told. rose_then (sides.taken_was Primary) (taken_mid Primary) (sides.taken_is Primary) (copied_bytes (record { list = own_list; parts = stated_parts words })) (ran_as program (stated_parts words) iterate own_list).moved.primary_taken (copied_of limits (stated_parts words) sides.left_old sides.left_new sides.was mid sides.taken_was taken_mid info h told) (takes (told_still told)).primary_rose;
-    secondary = λ told. subst (λ (k : ℕ). RoseBy k (sides.taken_is Secondary) (ran_as program (stated_parts words) iterate own_list).moved.secondary_taken) h.unread (takes (told_still told)).secondary_rose;
-    values_taken = λ told. stands (sides.taken_was Values) (sides.taken_is Values) kept.values_taken;
-    values_stored = λ told. stands (sides.stored_was Values) (sides.stored_is Values) kept.values_stored;
-    sums_taken = λ told. stands (sides.taken_was Sums) (sides.taken_is Sums) kept.sums_taken;
-    sums_stored = λ told. stands (sides.stored_was Sums) (sides.stored_is Sums) kept.sums_stored;
+  both_moved : Kept sides.taken_was taken_mid sides.stored_was stored_mid → WhereTold mid (RoseRun own_ran.moved taken_mid sides.taken_is stored_mid sides.stored_is) → IsMoved own_did.run own_did.moved sides
+  both_moved kept moves = record {
+    primary = λ told. rose_then (sides.taken_was Primary) (taken_mid Primary) (sides.taken_is Primary) (copied_bytes own_grid) own_ran.moved.primary_taken (copied_of limits (stated_parts words) sides.left_old sides.left_new sides.was mid sides.taken_was taken_mid info h told) (moves (told_still told)).primary;
+    secondary = λ told. subst (λ (k : ℕ). RoseBy k (sides.taken_is Secondary) own_ran.moved.secondary_taken) h.unread (moves (told_still told)).secondary;
+    values_taken = λ told. subst (λ (k : ℕ). RoseBy k (sides.taken_is Values) own_ran.moved.values_taken) kept.values_taken (moves (told_still told)).values_taken;
+    values_stored = λ told. subst (λ (k : ℕ). RoseBy k (sides.stored_is Values) own_ran.moved.values_stored) kept.values_stored (moves (told_still told)).values_stored;
+    sums_taken = λ told. subst (λ (k : ℕ). RoseBy k (sides.taken_is Sums) own_ran.moved.sums_taken) kept.sums_taken (moves (told_still told)).sums_taken;
+    sums_stored = λ told. subst (λ (k : ℕ). RoseBy k (sides.stored_is Sums) own_ran.moved.sums_stored) kept.sums_stored (moves (told_still told)).sums_stored;
   }
 
-  ended_moved : (end : Ended) → Kept sides.taken_was sides.taken_is sides.stored_was sides.stored_is → RunTakes (ran_as program (stated_parts words) iterate own_list) mid taken_mid sides.taken_is (Ok end) → done_status (Run end) ≡ status.Done → IsMoved own_did.run own_did.moved sides
-  ended_moved (ended.Over iteration vertex) kept takes done = absurd (cc)
-  ended_moved (ended.Still iteration) kept takes done = both_moved kept takes
-  ended_moved (ended.Limit iteration) kept takes done = both_moved kept takes
+  ended_moved : (end : Ended) → Kept sides.taken_was taken_mid sides.stored_was stored_mid → RunMoves own_ran mid taken_mid sides.taken_is stored_mid sides.stored_is (Ok end) → done_status (Run end) ≡ status.Done → IsMoved own_did.run own_did.moved sides
+  ended_moved (ended.Over iteration vertex) kept moves done = absurd (cc)
+  ended_moved (ended.Still iteration) kept moves done = both_moved kept moves
+  ended_moved (ended.Limit iteration) kept moves done = both_moved kept moves
 
-  ran_ends : (r : Result Ended RunStop) → Kept sides.taken_was sides.taken_is sides.stored_was sides.stored_is → IfOk r (EndShown (IsOverAt iterate.iterations info (IsOverIn program)) (IsReportOf program iterate info sides.old_out sides.new_out)) → IfErr r (DamageShown (IsWrongIn iterate info)) →
-      Leaves (ran_as program (stated_parts words) iterate own_list) mid sides.old_out sides.new_out r → RunTakes (ran_as program (stated_parts words) iterate own_list) mid taken_mid sides.taken_is r →
-      Ends (done_with (did_run program words iterate) (reading limits h.built.bytes)) sides (completed_run r)
-  ran_ends (Ok end) kept shown wrong leaves takes = record {
+  ran_ends : (r : Result Ended RunStop) → Kept sides.taken_was taken_mid sides.stored_was stored_mid → IsWithin own_need iterate.budget r → IfOk r (EndShown (IsOverAt iterate.iterations info (IsOverIn program)) (IsReportOf program iterate info sides.old_out sides.new_out)) → IfErr r (DamageShown (IsWrongOf program iterate info)) →
+      Leaves own_ran mid sides.old_out sides.new_out r → RunMoves own_ran mid taken_mid sides.taken_is stored_mid sides.stored_is r →
+      Ends (done_with (ran_on program words iterate) (reading limits h.built.bytes)) sides (completed_run r)
+  ran_ends (Ok end) kept within shown wrong leaves moves = record {
     did = own_did;
-    gives = own_gives;
+    gives = own_gives within;
     kind = refl;
     input = read_whole sides h.built.bytes h.built.told h.built.builds.1;
     shown = subst (λ i. EndShown (IsOverAt iterate.iterations i (IsOverIn program)) (IsReportOf program iterate i sides.old_out sides.new_out) end) h.built.builds.0.head shown;
     exact = λ told. let k = leaves (told_still told) in record { status = ap ending_status k.0; line = ap ending_line k.0; written = k.1 };
     files = own_files;
-    moved = ended_moved end kept takes;
+    moved = ended_moved end kept moves;
   }
-  ran_ends (Err by.Write) kept shown wrong leaves takes = record { did = own_did; gives = own_gives; front = λ told. leaves (told_still told); files = own_files }
-  ran_ends (Err by.Depot) kept shown wrong leaves takes = inr (record { did = own_did; gives = own_gives; front = λ told. leaves (told_still told); files = own_files })
-  ran_ends (Err (by.Damaged damage)) kept shown wrong leaves takes = record {
+  ran_ends (Err by.Write) kept within shown wrong leaves moves = record { did = own_did; gives = own_gives within; front = λ told. leaves (told_still told); files = own_files }
+  ran_ends (Err by.Depot) kept within shown wrong leaves moves = inr (record { did = own_did; gives = own_gives within; front = λ told. leaves (told_still told); files = own_files })
+  ran_ends (Err (by.Damaged damage)) kept within shown wrong leaves moves = record {
     did = own_did;
-    gives = own_gives;
+    gives = own_gives within;
     untold = λ told. leaves (told_still told);
     files = own_files;
-    run = record { program = program; iterate = iterate; own = record { list = own_list; parts = stated_parts words } };
+    run = record { program = program; iterate = iterate; own = own_grid };
     is_run = refl;
-    wrong = subst (λ i. IsWrongIn iterate i damage) h.built.builds.0.head wrong;
+    wrong = subst (λ i. IsWrongOf program iterate i damage) h.built.builds.0.head wrong;
   }
-  ran_ends (Err by.Memory) kept shown wrong leaves takes = record { same = leaves; files = inr (record { did = own_did; gives = own_gives; files = own_files }) }
+  ran_ends (Err by.Memory) kept within shown wrong leaves moves = record { same = leaves; files = inr (record { did = own_did; gives = own_gives within; files = own_files }) }
+  ran_ends (Err (by.BudgetTooSmall need given)) kept within shown wrong leaves moves = record {
+    built = Some own_grid;
+    gives = own_reads ∙ too_small own_grid own_did own_need iterate.budget need given within.0 within.1 within.2;
+    same = leaves;
+    files = own_files;
+  }
 
-  pub ran_done : (r : Result Ended RunStop) → Kept sides.taken_was sides.taken_is sides.stored_was sides.stored_is → IfOk r (EndShown (IsOverAt iterate.iterations info (IsOverIn program)) (IsReportOf program iterate info sides.old_out sides.new_out)) → IfErr r (DamageShown (IsWrongIn iterate info)) →
-      Leaves (ran_as program (stated_parts words) iterate own_list) mid sides.old_out sides.new_out r → RunTakes (ran_as program (stated_parts words) iterate own_list) mid taken_mid sides.taken_is r → HasDone (did_run program words iterate) limits sides (completed_run r)
-  ran_done r kept shown wrong leaves takes = record {
+  pub ran_done : (r : Result Ended RunStop) → Kept sides.taken_was taken_mid sides.stored_was stored_mid → IsWithin (need_in program info) iterate.budget r → IfOk r (EndShown (IsOverAt iterate.iterations info (IsOverIn program)) (IsReportOf program iterate info sides.old_out sides.new_out)) → IfErr r (DamageShown (IsWrongOf program iterate info)) →
+      Leaves own_ran mid sides.old_out sides.new_out r → RunMoves own_ran mid taken_mid sides.taken_is stored_mid sides.stored_is r → HasDone (ran_on program words iterate) limits sides (completed_run r)
+  ran_done r kept within shown wrong leaves moves = record {
     input = h.built.bytes;
     files = contents sides.was;
     entry = entry_of h.built.bytes sides h.built.told;
-    ends = ran_ends r kept shown wrong leaves takes;
+    ends = ran_ends r kept (own_within r within) shown wrong leaves moves;
   }
+
+-- a run that was ended comes after its engine was opened, and so does each stop but that for the budget
+pub ended_late : (end : Ended) → IsBeforeRun (end_status (Ok (Run end))) → ⊥
+ended_late (ended.Over iteration vertex) early = early
+ended_late (ended.Still iteration) early = early
+ended_late (ended.Limit iteration) early = early
+
+pub small_or_late : (why : RunStop) (A : Type 0) → (IsTooSmall why → A) → IsBeforeRun (end_status (Err (command_stop why))) → A
+small_or_late by.Memory A small early = absurd early
+small_or_late by.Depot A small early = absurd early
+small_or_late by.Write A small early = absurd early
+small_or_late (by.Damaged damage) A small early = absurd early
+small_or_late (by.BudgetTooSmall need given) A small early = small tt
 
 -- what every step leaves
 module _ {D : Type 0} (h : D → FileKind → Option (List ℕ)) (t s : D → FileKind → ℕ) where
@@ -326,14 +365,6 @@ module _ {D : Type 0} (h : D → FileKind → Option (List ℕ)) (t s : D → Fi
     sums_stored = stored Sums;
   }
 
-values_apart : (kind : Kind) → Values ≡ file_of kind → ⊥
-values_apart Full e = let d : Values ≡ Primary = e in cc
-values_apart Fed e = let d : Values ≡ Secondary = e in cc
-
-sums_apart : (kind : Kind) → Sums ≡ file_of kind → ⊥
-sums_apart Full e = let d : Sums ≡ Primary = e in cc
-sums_apart Fed e = let d : Sums ≡ Secondary = e in cc
-
 module _ {D : Type 0} (h : D → FileKind → Option (List ℕ)) (t s : D → FileKind → ℕ) (f : D → ℕ) (a : D → Option (List ℕ)) where
   pub build_leaves : (old new : D) → BuildLeaves h t s f a old new → LeavesRuns h t s old new
   build_leaves old new b = record {
@@ -343,26 +374,6 @@ module _ {D : Type 0} (h : D → FileKind → Option (List ℕ)) (t s : D → Fi
     sums_taken = b.taken Sums (λ e. cc) (λ e. cc);
     values_stored = b.values_stored;
     sums_stored = b.sums_stored;
-  }
-
-  pub open_leaves : (old new : D) → Reads h t s f a Meta old new → LeavesRuns h t s old new
-  open_leaves old new b = record {
-    values = b.contents Values;
-    sums = b.contents Sums;
-    values_taken = b.taken Values (λ e. cc);
-    sums_taken = b.taken Sums (λ e. cc);
-    values_stored = b.stored Values;
-    sums_stored = b.stored Sums;
-  }
-
-  pub run_leaves_files : (mode : Mode) (limit : ℕ) (old new : D) → Streams h t s f a mode limit old new → LeavesRuns h t s old new
-  run_leaves_files mode limit old new b = record {
-    values = b.contents Values;
-    sums = b.contents Sums;
-    values_taken = b.taken Values (λ e. cc) (λ u some few e. values_apart (kind_of mode u) e);
-    sums_taken = b.taken Sums (λ e. cc) (λ u some few e. sums_apart (kind_of mode u) e);
-    values_stored = b.stored Values;
-    sums_stored = b.stored Sums;
   }
 
 pub builds_within : (limits : TextLimits) (p : ℕ) (left_old left_new : Option (List ℕ)) (was is : FileKind → Option (List ℕ)) (fault : BuildFault) (need given : ℕ) → HasBuilt limits p left_old left_new was is (Err fault) → fault ≡ build_fault.BudgetTooSmall need given → ⊥

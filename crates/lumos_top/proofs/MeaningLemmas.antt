@@ -25,7 +25,7 @@ use Rattle.early_engine.specs.Report.{report}
 use Rattle.early_engine.specs.declared.options.Mode.{Mode}
 use Rattle.early_engine.specs.declared.options.Show.{Show}
 use Rattle.early_engine.specs.declared.options.Show.TheVariants.{All, Brief}
-use Rattle.lumos_top.specs.Answers.{Did, Halted, answer, answer_to, did_replay, did_run, did_within, done_with, done_within, limits_of, limits_with, mode_of, parts_for, replay_text, replay_vertices, replay_with, replay_within, show_of, stated_parts, vertices_within}
+use Rattle.lumos_top.specs.Answers.{Built, Did, Halted, answer, answer_to, built_head, did_replay, did_run, did_within, done_with, done_within, limits_of, limits_with, mode_of, need_in, parts_for, ran_on, replay_text, replay_vertices, replay_with, replay_within, show_of, stated_parts, vertices_within}
 use Rattle.lumos_top.specs.Ends.{Ends, EndsOn, IsExact, end_status}
 use Rattle.lumos_top.specs.Meaning.{HasMeaning, Means, ReplayMeans, RunMeans, ShowsBeyond, ShowsStill, ShowsWalks, ShowsWithin, finals_with, report_with}
 use Rattle.lumos_top.specs.Programs.{chosen}
@@ -34,7 +34,9 @@ use Rattle.lumos_top.specs.Sides.{IfTold, Sides, WhereTold}
 use Rattle.lumos_top.specs.declared.status.Completed.{Completed}
 use Rattle.lumos_top.specs.declared.status.Status.{Status}
 use Rattle.lumos_top.specs.declared.status.Status.TheVariants as status
+use Rattle.lumos_top.specs.declared.status.Refusal.TheVariants as refuse
 use Rattle.lumos_top.specs.declared.status.Stop.{Stop}
+use Rattle.lumos_top.specs.declared.status.Stop.TheVariants as stop
 use Rattle.lumos_top.specs.declared.status.TooMany.{TooMany}
 use Rattle.lumos_top.specs.declared.status.TooMany.TheVariants.{Parts, Vertices}
 use Rattle.lumos_top.specs.declared.stream.StreamStop.{StreamStop}
@@ -181,24 +183,32 @@ abbrev DidSo : Sides → Completed → Result Did Halted → Type 0
 DidSo sides completed (Ok did) = IfTold did.run sides.was (IsExact did sides completed)
 DidSo sides completed (Err halt) = ⊥
 
+-- a run that wasn't refused
+ran_so : (sides : Sides) (completed : Completed) (b : Bool) (small : Halted) (did : Did) → DidSo sides completed (if b then Err small else Ok did) → IfTold did.run sides.was (IsExact did sides completed)
+ran_so sides completed true small did so = absurd so
+ran_so sides completed false small did so = so
+
 module _ (sides : Sides) (completed : Completed) (input : List ℕ) where
   module _ (program : ProgramWords) (grid : BuildWords) (iterate : IterWords) (few : iterate.iterations ≤ 1000000) where
-    run_listed : (limits : TextLimits) (l : Result Listed TextFault) → limits_of grid ≡ Ok limits → reading limits input ≡ l → DidSo sides completed (done_with (did_run program grid iterate) l) → WhereTold sides.was (RunMeans program grid iterate input sides)
+    run_listed : (limits : TextLimits) (l : Result Listed TextFault) → limits_of grid ≡ Ok limits → reading limits input ≡ l → DidSo sides completed (done_with (ran_on program grid iterate) l) → WhereTold sides.was (RunMeans program grid iterate input sides)
     run_listed limits (Ok list) within reads so = λ told.
         let small = small_of grid.both limits input list (run_limits grid limits within) reads in
-        let c = chosen program in record {
+        let c = chosen program in
+        let own : Built = record { list = list; parts = parts_for grid list } in
+        let need = need_in program (built_head own) in
+        let small_budget : Halted = record { why = stop.Refused (refuse.BudgetTooSmall need iterate.budget); built = Some own } in record {
           limits = limits;
           within = within;
           list = list;
           reads = reads;
           shown = shown_of program list;
-          written = (so told).written ∙ ap (after_told sides.old_out) (report_is c.program c.name (show_of iterate) (mode_of iterate) list.edges list.vertices (parts_for grid list) iterate.iterations);
+          written = (ran_so sides completed (nat_lt iterate.budget need) small_budget (did_run program grid iterate list) so told).written ∙ ap (after_told sides.old_out) (report_is c.program c.name (show_of iterate) (mode_of iterate) list.edges list.vertices (parts_for grid list) iterate.iterations);
           walks = shows_walks list grid.both small program iterate.iterations few;
           still = λ t v ends below. shows_still list grid.both small program iterate.iterations t v few ends below;
         }
     run_listed limits (Err fault) within reads so = absurd so
 
-    run_means : (r : Result TextLimits TooMany) → limits_of grid ≡ r → DidSo sides completed (done_within (did_run program grid iterate) r input) → WhereTold sides.was (RunMeans program grid iterate input sides)
+    run_means : (r : Result TextLimits TooMany) → limits_of grid ≡ r → DidSo sides completed (done_within (ran_on program grid iterate) r input) → WhereTold sides.was (RunMeans program grid iterate input sides)
     run_means (Ok limits) within so = run_listed limits (reading limits input) within refl so
     run_means (Err many) within so = absurd so
 

@@ -13,7 +13,7 @@ use Rattle.lumos_report.specs.declared.records.Ending.{Ending as EndingRecord}
 use Rattle.lumos_report.specs.declared.records.Why.TheVariants as why
 use Rattle.lumos_top.specs.Answers.{Did, Halted, RunOn, answer, built_head}
 use Rattle.lumos_top.specs.Comes.{Comes, HasOutcome, IsCutOutcome, IsDone, IsOutcome, IsRefusedFor, IsReported, IsToldOutcome}
-use Rattle.lumos_top.specs.Ends.{Ends, EndsOn, IsCut, IsDamaged, IsMade, IsRefused, IsStopped, IsWritten, RefusedOr, StopsAtWords, StopsOutside, UnlessGrid, done_line, done_status, end_line, end_status, is_of_run}
+use Rattle.lumos_top.specs.Ends.{Ends, EndsOn, IsCut, IsDamaged, IsMade, IsRefused, IsStopped, IsWritten, RefusedOr, StopsAtWords, StopsOutside, UnlessGrid, UnlessRun, done_line, done_status, end_line, end_status, is_of_run}
 use Rattle.lumos_top.specs.Outcome.{outcome_of}
 use Rattle.lumos_top.specs.Running.{IsReportOf, RunShown}
 use Rattle.lumos_top.specs.Sides.{FilesAre, GetsLine, IfTold, InputEnds, IsAttached, IsMoved, NoMeta, Sides}
@@ -56,6 +56,7 @@ refusal_comes : (answer : Result Did Halted) (sides : Sides) (why : Refusal) →
 refusal_comes answer sides (refuse.Usage fault) h = refused answer (refuse.Usage fault) sides h
 refusal_comes answer sides (refuse.TooMany many) h = refused answer (refuse.TooMany many) sides h
 refusal_comes answer sides (refuse.Text fault) h = faulty answer sides fault h
+refusal_comes answer sides (refuse.BudgetTooSmall need given) h = refused answer (refuse.BudgetTooSmall need given) sides h
 refusal_comes answer sides (refuse.BadSchedule line) h = refused answer (refuse.BadSchedule line) sides h
 refusal_comes answer sides (refuse.ScheduleEnded line) h = refused answer (refuse.ScheduleEnded line) sides h
 refusal_comes answer sides (refuse.TooManyEvents limit) h = refused answer (refuse.TooManyEvents limit) sides h
@@ -200,6 +201,7 @@ came_refused : (why : Refusal) → CameTo (Err (stop.Refused why)) (refusal_stat
 came_refused (refuse.Usage fault) = (fault, refl)
 came_refused (refuse.TooMany many) = tt
 came_refused (refuse.Text fault) = came_text fault
+came_refused (refuse.BudgetTooSmall need given) = tt
 came_refused (refuse.BadSchedule line) = tt
 came_refused (refuse.ScheduleEnded line) = tt
 came_refused (refuse.TooManyEvents limit) = tt
@@ -251,6 +253,10 @@ placed wanted attached r s is h = record {
   either = h.either;
   sure = λ memory depot. h.sure (λ e. memory (sym is ∙ ap end_status e)) (λ e. depot (sym is ∙ ap end_status e));
 }
+
+-- what is kept for runs, by the status that was told
+pub unless_run : (asked : Result Request UsageFault) (A : Type 0) (r : Result Completed Stop) (s : Status) → end_status r ≡ s → UnlessRun asked (end_status r) A → UnlessRun asked s A
+unless_run asked A r s is h = subst (λ (t : Status). UnlessRun asked t A) is h
 
 -- a command that asks for no grid doesn't fail by the depot
 pub kept : (asked : Result Request UsageFault) (A : Type 0) (r : Result Completed Stop) (s : Status) → end_status r ≡ s → UnlessGrid asked (A × (r ≡ Err (stop.Outside outside.Depot) → ⊥)) → UnlessGrid asked (A × (s ≢ status.DepotFault))

@@ -7,7 +7,7 @@ use Rattle.lumos_depot.specs.declared.depot.FileKind.{FileKind}
 use Rattle.edge_text.specs.Reading.{Listed, reading}
 use Rattle.edge_text.specs.declared.fault.TextFault.{TextFault}
 use Rattle.edge_text.specs.declared.fault.TextLimits.{TextLimits}
-use Rattle.lumos_top.specs.Answers.{Did, Halted, answer, answer_to, done_with, done_within, halted}
+use Rattle.lumos_top.specs.Answers.{Built, Did, Halted, answer, answer_to, built_head, built_on, did_run, done_with, done_within, halted, need_in, parts_for, ran_on}
 use Rattle.lumos_top.specs.Ends.{Ends, EndsOn, HasDone}
 use Rattle.lumos_top.specs.Sides.{IsEntry, SameGrid, Sides}
 use Rattle.lumos_law.specs.Program.{Program}
@@ -19,6 +19,9 @@ use Rattle.lumos_words.specs.Requests.{IsAnswer, request}
 use Rattle.lumos_words.specs.declared.faults.WordsFault.{WordsFault}
 use Rattle.lumos_words.specs.declared.faults.WordsFault.TheVariants.{Usage}
 use Rattle.lumos_words.specs.declared.faults.UsageFault.{UsageFault}
+use Rattle.lumos_words.specs.declared.request.BuildWords.{BuildWords}
+use Rattle.lumos_words.specs.declared.request.IterWords.{IterWords}
+use Rattle.lumos_words.specs.declared.request.ProgramWords.{ProgramWords}
 use Rattle.lumos_words.specs.declared.request.Request.{Request}
 use Rattle.lumos_top.specs.declared.status.Completed.{Completed}
 use Rattle.lumos_top.specs.declared.status.Refusal.TheVariants as refuse
@@ -59,19 +62,38 @@ refused answer_on why sides ends = record {
   ends = ends (unwrap_or sides.left_old []) (contents sides.was);
 }
 
-no_usage : (command : Listed → Did) (r : Result Listed TextFault) (fault : UsageFault) (halt : Halted) → halt.why ≡ stop.Refused (refuse.Usage fault) → done_with command r ≡ Err halt → ⊥
-no_usage command (Ok list) fault halt why h = cc
-no_usage command (Err text) fault halt why h =
+-- a command over a list that was read isn't refused for its words
+abbrev pub AsksAll : (Listed → Result Did Halted) → Type 0
+AsksAll command = (list : Listed) (fault : UsageFault) (halt : Halted) → halt.why ≡ stop.Refused (refuse.Usage fault) → command list ≡ Err halt → ⊥
+
+asks_by : (b : Bool) (small halt : Halted) (did : Did) (need given : ℕ) (fault : UsageFault) → small.why ≡ stop.Refused (refuse.BudgetTooSmall need given) → halt.why ≡ stop.Refused (refuse.Usage fault) → (if b then Err small else Ok did) ≡ Err halt → ⊥
+asks_by true small halt did need given fault is why h =
+    let same : small ≡ halt = cc in
+    let other : stop.Refused (refuse.BudgetTooSmall need given) ≡ stop.Refused (refuse.Usage fault) = sym is ∙ ap (λ (x : Halted). x.why) same ∙ why in cc
+asks_by false small halt did need given fault is why h = cc
+
+pub run_asks : (program : ProgramWords) (words : BuildWords) (iterate : IterWords) → AsksAll (ran_on program words iterate)
+run_asks program words iterate = λ list fault halt why h.
+    let own : Built = record { list = list; parts = parts_for words list } in
+    let need = need_in program (built_head own) in
+    asks_by (nat_lt iterate.budget need) (record { why = stop.Refused (refuse.BudgetTooSmall need iterate.budget); built = Some own }) halt (did_run program words iterate list) need iterate.budget fault refl why h
+
+pub build_asks : (words : BuildWords) → AsksAll (built_on words)
+build_asks words = λ list fault halt why h. cc
+
+no_usage : (command : Listed → Result Did Halted) (r : Result Listed TextFault) (fault : UsageFault) (halt : Halted) → AsksAll command → halt.why ≡ stop.Refused (refuse.Usage fault) → done_with command r ≡ Err halt → ⊥
+no_usage command (Ok list) fault halt asks why h = asks list fault halt why h
+no_usage command (Err text) fault halt asks why h =
     let same : halted (refuse.Text text) ≡ halt = cc in
     let other : stop.Refused (refuse.Text text) ≡ stop.Refused (refuse.Usage fault) = ap (λ (x : Halted). x.why) same ∙ why in cc
 
-no_usage_at : (command : Listed → Did) (r : Result Listed TextFault) (sides : Sides) (result : Result Completed Stop) (fault : UsageFault) → result ≡ Err (stop.Refused (refuse.Usage fault)) → Ends (done_with command r) sides result → ⊥
-no_usage_at command r sides result fault is h =
+no_usage_at : (command : Listed → Result Did Halted) (r : Result Listed TextFault) (sides : Sides) (result : Result Completed Stop) (fault : UsageFault) → AsksAll command → result ≡ Err (stop.Refused (refuse.Usage fault)) → Ends (done_with command r) sides result → ⊥
+no_usage_at command r sides result fault asks is h =
     let refused : Ends (done_with command r) sides (Err (stop.Refused (refuse.Usage fault))) = subst (Ends (done_with command r) sides) is h in
-    no_usage command r fault (record { why = stop.Refused (refuse.Usage fault); built = refused.built }) refl refused.gives
+    no_usage command r fault (record { why = stop.Refused (refuse.Usage fault); built = refused.built }) asks refl refused.gives
 
 -- a command over a list that is read within its limits
-pub within_limits : (command : Listed → Did) (r : Result TextLimits TooMany) (limits : TextLimits) (sides : Sides) (result : Result Completed Stop) → r ≡ Ok limits → HasDone command limits sides result → EndsOn (λ input files. done_within command r input) sides result
+pub within_limits : (command : Listed → Result Did Halted) (r : Result TextLimits TooMany) (limits : TextLimits) (sides : Sides) (result : Result Completed Stop) → r ≡ Ok limits → HasDone command limits sides result → EndsOn (λ input files. done_within command r input) sides result
 within_limits command r limits sides result is h = subst (λ l. EndsOn (λ input files. done_within command l input) sides result) (sym is) h
 
 -- a command that words ask for
@@ -79,8 +101,8 @@ pub asked_for : (words : List (List ℕ)) (r : Result Request UsageFault) (sides
 asked_for words r sides result is h = subst (λ q. EndsOn (answer_to q) sides result) (sym is) h
 
 -- a command that began doesn't stop at the words
-pub began : (command : Listed → Did) (limits : TextLimits) (sides : Sides) (result : Result Completed Stop) (fault : UsageFault) → HasDone command limits sides result → result ≡ Err (stop.Refused (refuse.Usage fault)) → ⊥
-began command limits sides result fault h is = no_usage_at command (reading limits h.input) sides result fault is h.ends
+pub began : (command : Listed → Result Did Halted) (limits : TextLimits) (sides : Sides) (result : Result Completed Stop) (fault : UsageFault) → AsksAll command → HasDone command limits sides result → result ≡ Err (stop.Refused (refuse.Usage fault)) → ⊥
+began command limits sides result fault asks h is = no_usage_at command (reading limits h.input) sides result fault asks is h.ends
 
 -- the same program by other names of its numbers and seeds
 pub spread_as : (Q : Program Scores Total4 → Type 0) (unit own share other : ℕ) (seeds words : List Seed) → unit ≡ own → share ≡ other → seeds ≡ words → Q (spreading_program unit share seeds) → Q (spreading_program own other words)

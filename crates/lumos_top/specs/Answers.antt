@@ -4,18 +4,21 @@ use Rattle.edge_text.specs.Reading.{Listed, reading}
 use Rattle.edge_text.specs.declared.fault.TextFault.{TextFault}
 use Rattle.edge_text.specs.declared.fault.TextLimits.{TextLimits}
 use Rattle.lumos_depot.specs.declared.depot.FileKind.{FileKind}
+use Rattle.lumos_depot.specs.declared.depot.FileKind.TheVariants as file
 use Rattle.lumos_law.specs.Program.{Program}
 use Rattle.lumos_law.specs.Sync.{Ending, ending}
 use Rattle.grid_format.specs.Checks.{GridFiles}
 use Rattle.grid_format.specs.Grid.{grid, grid_head}
 use Rattle.grid_format.specs.declared.head.GridInfo.{GridInfo}
-use Rattle.early_engine.specs.Passes.{primary_taken, secondary_taken}
+use Rattle.early_engine.specs.Engines.{cut_in}
 use Rattle.early_engine.specs.Report.{finished, report}
+use Rattle.early_engine.specs.Runs.{stored_by, taken_by}
 use Rattle.early_engine.specs.declared.options.Mode.{Mode}
 use Rattle.early_engine.specs.declared.options.Mode.TheVariants.{Fed, Plain}
 use Rattle.early_engine.specs.declared.options.RunOptions.{RunOptions}
 use Rattle.early_engine.specs.declared.options.Show.{Show}
 use Rattle.early_engine.specs.declared.options.Show.TheVariants.{All, Brief}
+use Rattle.windows.specs.Budget.{need_of, pinned_of}
 use Rattle.lumos_top.specs.Programs.{chosen}
 use Rattle.lumos_top.specs.Report.{grid_line}
 use Rattle.lumos_top.specs.Replays.{Refused, Streamed, replay_limits, replayed, streamed}
@@ -65,7 +68,7 @@ show_of iterate = if iterate.brief then Brief else All
 
 -- with the bytes that values and sums may take
 abbrev pub options_of : IterWords → RunOptions
-options_of iterate = record { iterations = iterate.iterations; mode = mode_of iterate; show = show_of iterate; budget = 1073741824 }
+options_of iterate = record { iterations = iterate.iterations; mode = mode_of iterate; show = show_of iterate; budget = iterate.budget }
 
 -- how many bytes a command takes of files and stores in them
 pub record Moved : Type 0 where
@@ -80,22 +83,35 @@ pub record Moved : Type 0 where
 abbrev pub taken_blocks : ℕ → ℕ → Moved
 taken_blocks primary secondary = record { primary_taken = primary; secondary_taken = secondary; values_taken = 0; values_stored = 0; sums_taken = 0; sums_stored = 0 }
 
--- what a run writes, how it ends, and what its finished iterations move
+-- the same of a run, by the files that it takes bytes of and stores bytes in
+abbrev pub moved_by : (FileKind → ℕ) → (FileKind → ℕ) → Moved
+moved_by taken stored = record { primary_taken = taken file.Primary; secondary_taken = taken file.Secondary; values_taken = taken file.Values; values_stored = stored file.Values; sums_taken = taken file.Sums; sums_stored = stored file.Sums }
+
+-- behind a build, which copies so many bytes of Primary
+abbrev pub behind_copy : ℕ → Moved → Moved
+behind_copy copied moved = record { primary_taken = copied + moved.primary_taken; secondary_taken = moved.secondary_taken; values_taken = moved.values_taken; values_stored = moved.values_stored; sums_taken = moved.sums_taken; sums_stored = moved.sums_stored }
+
+-- what a run writes, how it ends, and what its beginning and its finished iterations move
 pub record Ran : Type 0 where
   pub text : List ℕ
   pub ending : Ending
   pub moved : Moved
 
-abbrev pub ran_by : {V S : Type 0} → Program V S → List ℕ → ℕ → IterWords → Listed → Ran
-ran_by p name parts iterate list =
-    let end = ending p list.edges list.vertices iterate.iterations in record {
-      text = report p name (show_of iterate) (mode_of iterate) list.edges list.vertices parts iterate.iterations;
+-- by the widths of a value and of a sum: as many chunks are kept in memory as the budget has room for
+abbrev pub ran_with : {V S : Type 0} → Program V S → ℕ → ℕ → List ℕ → RunOptions → GridInfo → Listed → Ran
+ran_with p v s name options info list =
+    let end = ending p list.edges info.vertices options.iterations in
+    let pinned = pinned_of (cut_in info) v s options.budget in record {
+      text = report p name options.show options.mode list.edges info.vertices info.parts options.iterations;
       ending = end;
-      moved = taken_blocks (primary_taken p list.edges list.vertices parts (mode_of iterate) iterate.iterations (finished end)) (secondary_taken p list.edges list.vertices parts (mode_of iterate) iterate.iterations (finished end));
+      moved = moved_by (taken_by (cut_in info) v s pinned p list.edges options.show options.mode options.iterations (finished end)) (stored_by (cut_in info) v s pinned options.mode options.iterations (finished end));
     }
 
+abbrev pub ran_by : {V S : Type 0} → Program V S → ℕ → ℕ → List ℕ → ℕ → IterWords → Listed → Ran
+ran_by p v s name parts iterate list = ran_with p v s name (options_of iterate) (grid_head list.edges list.vertices parts) list
+
 abbrev pub ran_as : ProgramWords → ℕ → IterWords → Listed → Ran
-ran_as words parts iterate list = let c = chosen words in ran_by c.program c.name parts iterate list
+ran_as words parts iterate list = let c = chosen words in ran_by c.program c.coding.value_width c.coding.sum_width c.name parts iterate list
 
 -- a grid that is built: that of a list, over so many parts
 pub record Built : Type 0 where
@@ -114,6 +130,10 @@ built_head built = grid_head built.list.edges built.list.vertices built.parts
 
 abbrev pub built_files : Built → GridFiles
 built_files built = grid built.list.edges built.list.vertices built.parts
+
+-- how many bytes the windows of a program over a grid with this head need
+abbrev pub need_in : ProgramWords → GridInfo → ℕ
+need_in words info = let c = chosen words in need_of (cut_in info) c.coding.value_width c.coding.sum_width
 
 -- what a command comes to that nothing stops: its text, its status and fault line, whether it reads the input, the grid that it
 -- builds, if any, the run whose text is made of what the files of that grid give back, if it is one, and what it moves
@@ -149,7 +169,7 @@ did_run program words iterate list =
       reads = true;
       built = Some own;
       run = Some (record { program = program; iterate = iterate; own = own });
-      moved = taken_blocks (copied_bytes own + ran.moved.primary_taken) ran.moved.secondary_taken;
+      moved = behind_copy (copied_bytes own) ran.moved;
     }
 
 abbrev pub did_build : BuildWords → Listed → Did
@@ -164,12 +184,23 @@ did_build words list =
       moved = taken_blocks (copied_bytes own) 0;
     }
 
+-- What a run over the grid of a list comes to: it is refused where its windows need more than the budget, and the grid is built
+-- by then.
+abbrev pub ran_on : ProgramWords → BuildWords → IterWords → Listed → Result Did Halted
+ran_on program words iterate list =
+    let own : Built = record { list = list; parts = parts_for words list } in
+    let need = need_in program (built_head own) in
+    if nat_lt iterate.budget need then Err (record { why = stop.Refused (refuse.BudgetTooSmall need iterate.budget); built = Some own }) else Ok (did_run program words iterate list)
+
+abbrev pub built_on : BuildWords → Listed → Result Did Halted
+built_on words list = Ok (did_build words list)
+
 -- what is done with a list that was read, or its fault
-abbrev pub done_with : (Listed → Did) → Result Listed TextFault → Result Did Halted
-done_with command (Ok list) = Ok (command list)
+abbrev pub done_with : (Listed → Result Did Halted) → Result Listed TextFault → Result Did Halted
+done_with command (Ok list) = command list
 done_with command (Err fault) = Err (halted (refuse.Text fault))
 
-abbrev pub done_within : (Listed → Did) → Result TextLimits TooMany → List ℕ → Result Did Halted
+abbrev pub done_within : (Listed → Result Did Halted) → Result TextLimits TooMany → List ℕ → Result Did Halted
 done_within command (Ok limits) input = done_with command (reading limits input)
 done_within command (Err many) input = Err (halted (refuse.TooMany many))
 
@@ -202,8 +233,8 @@ did_within program parts (Err many) input = Err (halted (refuse.TooMany many))
 
 -- What an input and the files at entry come to, as asked.
 abbrev pub answer_to : Result Request UsageFault → List ℕ → (FileKind → List ℕ) → Result Did Halted
-answer_to (Ok (Run program grid iterate)) input files = done_within (did_run program grid iterate) (limits_of grid) input
-answer_to (Ok (Build grid)) input files = done_within (did_build grid) (limits_of grid) input
+answer_to (Ok (Run program grid iterate)) input files = done_within (ran_on program grid iterate) (limits_of grid) input
+answer_to (Ok (Build grid)) input files = done_within (built_on grid) (limits_of grid) input
 answer_to (Ok (Replay program parts vertices both)) input files = did_within program parts (replay_within parts vertices both) input
 answer_to (Err fault) input files = Err (halted (refuse.Usage fault))
 

@@ -23,7 +23,7 @@ pub record TextFits (limits : TextLimits) : Type 0 where
   pub edges : limits.max_edges ≤ 2147483648
   pub bytes : limits.max_bytes ≤ 1099511627776
 
--- Why a command stops where its grid isn't built. No budget is stated, so none is too small.
+-- Why a command stops where its grid isn't built. The parts are stated, so that no budget is too small for them.
 abbrev pub BuildStops : BuildFault → Stop → Type 0
 BuildStops (fault.Input faulty) why = why ≡ stop.Refused (refuse.Text (text.Input faulty))
 BuildStops (fault.TooManyEdges limit) why = why ≡ stop.Refused (refuse.Text (text.TooManyEdges limit))

@@ -8,7 +8,7 @@ use Rattle.lumos_report.specs.declared.records.Ending.{Ending as EndingRecord}
 use Rattle.lumos_top.specs.Answers.{RunOn, built_head}
 use Rattle.lumos_top.specs.Ends.{IsUnread}
 use Rattle.lumos_top.specs.Outcome.{Outcome, outcome}
-use Rattle.lumos_top.specs.Running.{IsOverAt, IsOverIn, IsReportOf, IsWrongIn}
+use Rattle.lumos_top.specs.Running.{IsOverAt, IsOverIn, IsReportOf, IsWrongOf}
 use Rattle.lumos_top.specs.Sides.{FilesAre, GetsLine, IfTold, InputEnds, IsEntry, IsMoved, NoMeta, Sides}
 use Rattle.lumos_top.specs.Stops.{damage_line, ending_line, outside_line, refusal_line, refusal_status}
 use Rattle.lumos_top.specs.declared.status.Damage.{Damage}
@@ -44,15 +44,15 @@ pub record IsOverRun (o : Outcome) (err : List ℕ) (sides : Sides) : Type 0 whe
   pub is_over : IsOverAt run.iterate.iterations (built_head run.own) (IsOverIn run.program) iteration vertex
   pub line : err ≡ ending_line (over_in iteration vertex)
 
--- A run stopped at a number that can't stand where it stood in the files of the grid of the list that was read, which the
--- line tells; the files aren't told, and are those that were built.
+-- A run stopped at a number that can't stand where it stood in the files of the grid of the list that was read, or in Values or
+-- Sums, which the line tells; the files aren't told, and those of the grid are those that were built.
 pub record IsWrongRun (o : Outcome) (err : List ℕ) (sides : Sides) : Type 0 where
   pub run : RunOn
   pub is_run : o.run ≡ Some run
   pub untold : sides.was file.Meta ≡ None
   pub files : FilesAre o.built sides.was sides.is
   pub damage : Damage
-  pub wrong : IsWrongIn run.iterate (built_head run.own) damage
+  pub wrong : IsWrongOf run.program run.iterate (built_head run.own) damage
   pub line : err ≡ damage_line damage
 
 -- A front of the text was written, and the files are the outcome's.

@@ -1,12 +1,12 @@
 -- How a command ends over the outside.
-use Rattle.std.specs.Prelude.{◌≡◌, ◌⊎◌, ◌≤◌, ℕ, Bool, true, false, List, [], Option, Some, Result, Ok, Err, is_some}
+use Rattle.std.specs.Prelude.{◌≡◌, ◌⊎◌, ◌≤◌, ⊤, ℕ, Bool, true, false, List, [], Option, Some, Result, Ok, Err, is_some}
 use Rattle.lumos_depot.specs.Causes.{Rose}
 use Rattle.lumos_depot.specs.Streams.{AppendsFront, after_told}
 use Rattle.lumos_depot.specs.declared.depot.FileKind.{FileKind}
 use Rattle.edge_text.specs.Reading.{Listed, reading}
 use Rattle.edge_text.specs.declared.fault.TextLimits.{TextLimits}
 use Rattle.lumos_top.specs.Answers.{Built, Did, Halted, RunOn, built_head, done_with}
-use Rattle.lumos_top.specs.Running.{DoneShown, IsWrongIn, ending_told}
+use Rattle.lumos_top.specs.Running.{DoneShown, IsWrongOf, ending_told}
 use Rattle.lumos_top.specs.Sides.{FilesAre, IfTold, InputEnds, IsEntry, IsMoved, NoMeta, SameGrid, Sides, WhereTold}
 use Rattle.lumos_top.specs.Stops.{ending_line, ending_status, stop_line, stop_status}
 use Rattle.lumos_top.specs.declared.status.Completed.{Completed}
@@ -95,7 +95,7 @@ pub record IsUnread (sides : Sides) : Type 0 where
   pub same : sides.new_out ≡ sides.old_out
   pub files : SameGrid sides.was sides.is
 
--- a number of the grid that was built is damaged, which doesn't happen where the files are told
+-- a number of the grid that was built, or of a run over it, is damaged, which doesn't happen where the files are told
 pub record IsDamaged (answer : Result Did Halted) (sides : Sides) (damage : Damage) : Type 0 where
   pub did : Did
   pub gives : answer ≡ Ok did
@@ -103,7 +103,7 @@ pub record IsDamaged (answer : Result Did Halted) (sides : Sides) (damage : Dama
   pub files : FilesAre did.built sides.was sides.is
   pub run : RunOn
   pub is_run : did.run ≡ Some run
-  pub wrong : IsWrongIn run.iterate (built_head run.own) damage
+  pub wrong : IsWrongOf run.program run.iterate (built_head run.own) damage
 
 -- Nothing was written, as the answer says, and the files are those that it leaves.
 pub record IsRefused (answer : Result Did Halted) (why : Refusal) (sides : Sides) : Type 0 where
@@ -133,7 +133,7 @@ pub record EndsOn (answer_on : List ℕ → (FileKind → List ℕ) → Result D
   pub ends : Ends (answer_on input files) sides result
 
 -- the same of a command over a list that is read within limits
-abbrev pub HasDone : (Listed → Did) → TextLimits → Sides → Result Completed Stop → Type 0
+abbrev pub HasDone : (Listed → Result Did Halted) → TextLimits → Sides → Result Completed Stop → Type 0
 HasDone command limits sides result = EndsOn (λ input files. done_with command (reading limits input)) sides result
 
 -- No count of faults fell, and a fault of the outside stops a command only where its count rose.
@@ -153,6 +153,27 @@ RefusedOr result why = (result ≡ Err (stop.Outside outside.Memory)) ⊎ (resul
 abbrev pub StopsAtWords : Result Request UsageFault → Result Completed Stop → Type 0
 StopsAtWords (Ok asked) result = (fault : UsageFault) → result ≡ Err (stop.Refused (refuse.Usage fault)) → ⊥
 StopsAtWords (Err fault) result = RefusedOr result (refuse.Usage fault)
+
+-- a run with this status stopped before its engine was opened
+abbrev pub IsBeforeRun : Status → Type 0
+IsBeforeRun status.Done = ⊥
+IsBeforeRun status.Memory = ⊥
+IsBeforeRun status.Usage = ⊤
+IsBeforeRun status.Input = ⊤
+IsBeforeRun status.Limit = ⊤
+IsBeforeRun status.Range = ⊥
+IsBeforeRun status.ReadFault = ⊤
+IsBeforeRun status.DepotFault = ⊥
+IsBeforeRun status.WriteFault = ⊥
+IsBeforeRun status.Grid = ⊥
+IsBeforeRun status.Schedule = ⊤
+
+-- a fact that is owed where the words ask for no run, or where it stopped before its engine was opened
+abbrev pub UnlessRun : Result Request UsageFault → Status → Type 0 → Type 0
+UnlessRun (Ok (ask.Run program grid iterate)) result fact = IsBeforeRun result → fact
+UnlessRun (Ok (ask.Build grid)) result fact = fact
+UnlessRun (Ok (ask.Replay program parts vertices both)) result fact = fact
+UnlessRun (Err fault) result fact = fact
 
 -- a fact that is owed where the words ask for no grid
 abbrev pub UnlessGrid : Result Request UsageFault → Type 0 → Type 0

@@ -81,7 +81,7 @@ pub record IsMoved (run : Option RunOn) (moved : Moved) (sides : Sides) : Type 0
   pub sums_taken : IfTold run sides.was (RoseBy (sides.taken_was file.Sums) (sides.taken_is file.Sums) moved.sums_taken)
   pub sums_stored : IfTold run sides.was (RoseBy (sides.stored_was file.Sums) (sides.stored_is file.Sums) moved.sums_stored)
 
--- What every command leaves: what is kept for runs, Values and Sums with what is counted for them.
+-- What is kept for runs was left: Values and Sums, with what is counted for them.
 pub record LeavesRuns {D : Type 0} (h : D → FileKind → Option (List ℕ)) (t s : D → FileKind → ℕ) (before after : D) : Type 0 where
   pub values : h after file.Values ≡ h before file.Values
   pub sums : h after file.Sums ≡ h before file.Sums

@@ -53,6 +53,7 @@ abbrev pub refusal_status : Refusal → Status
 refusal_status (refuse.Usage fault) = status.Usage
 refusal_status (refuse.TooMany many) = status.Limit
 refusal_status (refuse.Text fault) = text_status fault
+refusal_status (refuse.BudgetTooSmall need given) = status.Limit
 refusal_status (refuse.BadSchedule line) = status.Input
 refusal_status (refuse.ScheduleEnded line) = status.Input
 refusal_status (refuse.TooManyEvents limit) = status.Limit
@@ -143,6 +144,7 @@ refusal_line (refuse.Usage fault) = codes "lumos: usage: " ++ usage_text fault.w
 refusal_line (refuse.TooMany (Parts given limit)) = codes "lumos: limit: parts " ++ decimal given ++ codes " over " ++ decimal limit ++ codes "\n"
 refusal_line (refuse.TooMany (Vertices given limit)) = codes "lumos: limit: vertices " ++ decimal given ++ codes " over " ++ decimal limit ++ codes "\n"
 refusal_line (refuse.Text fault) = text_line fault
+refusal_line (refuse.BudgetTooSmall need given) = codes "lumos: limit: budget needs " ++ decimal need ++ codes " given " ++ decimal given ++ codes "\n"
 refusal_line (refuse.BadSchedule line) = codes "lumos: schedule: line " ++ decimal line ++ codes ": bad\n"
 refusal_line (refuse.ScheduleEnded line) = codes "lumos: schedule: line " ++ decimal line ++ codes ": ended\n"
 refusal_line (refuse.TooManyEvents limit) = codes "lumos: limit: events " ++ decimal limit ++ codes "\n"

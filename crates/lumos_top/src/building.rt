@@ -6,7 +6,7 @@ ghost use Rattle.lumos_depot.specs.Steps.{RoseBy};
 ghost use Rattle.grid_build.specs.Built.{HasBuilt};
 ghost use Rattle.grid_format.specs.Heads.{IsHead};
 ghost use Rattle.lumos_words.specs.Fits.{GridFits};
-ghost use Rattle.lumos_top.specs.Answers.{did_build, stated_parts};
+ghost use Rattle.lumos_top.specs.Answers.{built_on, stated_parts};
 ghost use Rattle.lumos_top.specs.Building.{BuildStops, TextFits};
 ghost use Rattle.lumos_top.specs.Ends.{HasCauses, HasDone};
 ghost use Rattle.lumos_top.specs.Report.{grid_line};
@@ -137,7 +137,7 @@ pub fn build_grid<I: Source, D: Depot, O: Sink>(
     requires grid { GridFits grid.now }
     requires parts { stated_parts grid.now ≤ 256 }
     requires text { TextFits text }
-    ensures done { HasDone (did_build grid.now) text (sides I.left D.holds D.taken D.stored O.written input.old input.new depot.old depot.new out.old out.new) result }
+    ensures done { HasDone (built_on grid.now) text (sides I.left D.holds D.taken D.stored O.written input.old input.new depot.old depot.new out.old out.new) result }
     ensures leaves { LeavesRuns D.holds D.taken D.stored depot.old depot.new }
     ensures attached { IsAttached (Some grid.now.dir) (D.attached depot.new) (result ≡ Err (Stop.Outside Outside.Memory)) (result ≡ Err (Stop.Outside Outside.Depot)) }
     ensures causes { HasCauses I.faults D.faults O.faults input.old input.new depot.old depot.new out.old out.new result }

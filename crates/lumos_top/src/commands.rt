@@ -5,7 +5,7 @@ ghost use Rattle.lumos_words.specs.Matches.{texts_of};
 ghost use Rattle.lumos_words.specs.Requests.{request};
 ghost use Rattle.lumos_top.specs.Answers.{answer, answer_to, directory, limits_of, limits_with, place_within, refusal, stated_parts};
 ghost use Rattle.lumos_top.specs.Building.{TextFits};
-ghost use Rattle.lumos_top.specs.Ends.{EndsOn, HasCauses, RefusedOr, StopsAtWords, UnlessGrid};
+ghost use Rattle.lumos_top.specs.Ends.{EndsOn, HasCauses, IsBeforeRun, RefusedOr, StopsAtWords, UnlessGrid, UnlessRun, end_status};
 ghost use Rattle.lumos_top.specs.Sides.{IsAttached, LeavesRuns, sides};
 
 use crate::building::{build_grid, parts_of};
@@ -81,7 +81,7 @@ fn run_within<I: Source, D: Depot, O: Sink>(
     ensures refused { (many : TooMany) → limits_of grid.now ≡ Err many
         → (result ≡ Err (Stop.Refused (Refusal.TooMany many))) × (input.new ≡ input.old) × (depot.new ≡ depot.old) × (out.new ≡ out.old) }
     ensures done { EndsOn (answer_to (Ok (Request.Run program grid.now iterate))) (sides I.left D.holds D.taken D.stored O.written input.old input.new depot.old depot.new out.old out.new) result }
-    ensures leaves { LeavesRuns D.holds D.taken D.stored depot.old depot.new }
+    ensures leaves { IsBeforeRun (end_status result) → LeavesRuns D.holds D.taken D.stored depot.old depot.new }
     ensures attached { IsAttached (place_within (limits_of grid.now) grid.now.dir) (D.attached depot.new) (result ≡ Err (Stop.Outside Outside.Memory)) (result ≡ Err (Stop.Outside Outside.Depot)) }
     ensures causes { HasCauses I.faults D.faults O.faults input.old input.new depot.old depot.new out.old out.new result }
 {
@@ -119,7 +119,8 @@ fn build_within<I: Source, D: Depot, O: Sink>(
 ///
 /// It is refused by `Usage` exactly where the words ask for nothing, by `TooMany` exactly where a stated number is too great,
 /// and by `Text`, `BadSchedule`, `ScheduleEnded`, `TooManyEvents` and `Illegal` exactly where the input has that fault, unless
-/// memory is wanting. It stops by `Read`, `Depot` and `Write` only where the faults of the input, the depot and `out` rose, and
+/// memory is wanting, and by `BudgetTooSmall` exactly where the list of a run was read and its windows need more than the
+/// budget. It stops by `Read`, `Depot` and `Write` only where the faults of the input, the depot and `out` rose, and
 /// by `Memory` for no cause of its own, and then before anything is written.
 pub fn perform<I: Source, D: Depot, O: Sink>(
     alloc: Global,
@@ -133,7 +134,7 @@ pub fn perform<I: Source, D: Depot, O: Sink>(
     ensures refused { (why : Refusal) → refusal (texts_of words.now) ≡ Some why
         → RefusedOr result why × (input.new ≡ input.old) × (depot.new ≡ depot.old) × (out.new ≡ out.old) }
     ensures done { EndsOn (answer (texts_of words.now)) (sides I.left D.holds D.taken D.stored O.written input.old input.new depot.old depot.new out.old out.new) result }
-    ensures leaves { LeavesRuns D.holds D.taken D.stored depot.old depot.new }
+    ensures leaves { UnlessRun (request (texts_of words.now)) (end_status result) (LeavesRuns D.holds D.taken D.stored depot.old depot.new) }
     ensures attached { IsAttached (directory (texts_of words.now)) (D.attached depot.new) (result ≡ Err (Stop.Outside Outside.Memory)) (result ≡ Err (Stop.Outside Outside.Depot)) }
     ensures kept { UnlessGrid (request (texts_of words.now)) ((depot.new ≡ depot.old) × (result ≡ Err (Stop.Outside Outside.Depot) → ⊥)) }
     ensures causes { HasCauses I.faults D.faults O.faults input.old input.new depot.old depot.new out.old out.new result }

@@ -1,10 +1,10 @@
 use Rattle.std.proofs.Common.{◌≤◌, length, sym, ◌∙◌}
+use Rattle.lumos_depot.proofs.StepLemmas.{told_same}
 use Rattle.grid_format.specs.Grid.{grid}
 use Rattle.early_engine.specs.Engines.{cut_in}
 use Rattle.early_engine.specs.Grids.{bytes_in}
 use Rattle.early_engine.specs.Passes.{file_of}
 use Rattle.early_engine.proofs.GridLemmas.{on_grid_same}
-use Rattle.lumos_depot.proofs.StepLemmas.{told_same}
 use Rattle.early_engine.proofs.OpenLemmas.{blocks_fit}
 use Rattle.early_engine.proofs.open.read_layout.Goals as goal
 

@@ -1,7 +1,7 @@
 use Rattle.std.proofs.Common.{◌≡◌, ℕ, ◌+◌, ◌++◌, length, refl, ap, ◌∙◌, subst, arith}
 use Rattle.lumos_depot.specs.Streams.{Writes}
 use Rattle.lumos_report.specs.Report.{value_line}
-use Rattle.early_engine.proofs.Repeats.{text_cut, text_written, texts_whole}
+use Rattle.lumos_top.proofs.TextLemmas.{text_cut, text_written, texts_whole}
 use Rattle.lumos_top.proofs.finals.write_chunk.Goals as goal
 
 pub returns-in-Err-clause-bytes : goal.returns-in-Err-clause-bytes

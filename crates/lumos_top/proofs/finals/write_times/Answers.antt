@@ -1,7 +1,7 @@
 use Rattle.std.proofs.Common.{◌≡◌, refl, arith}
 use Rattle.partition.specs.Parts.{chunk_of}
 use Rattle.lumos_top.specs.Replays.{parts_lines}
-use Rattle.early_engine.proofs.Repeats.{text_cut, text_written, texts_whole}
+use Rattle.lumos_top.proofs.TextLemmas.{text_cut, text_written, texts_whole}
 use Rattle.lumos_top.proofs.finals.write_times.Goals as goal
 
 pub returns-in-Err-clause-bytes : goal.returns-in-Err-clause-bytes

@@ -1,0 +1,9 @@
+use Rattle.std.proofs.Common.{Bool, ◌++◌, sym, subst}
+use Rattle.windows.specs.Sums.{HasNext}
+use Rattle.early_engine.specs.Steps.{fed_if}
+use Rattle.early_engine.proofs.block.feed_ahead.Goals as goal
+
+pub returns-then-visit-clause-fed : goal.returns-then-visit-clause-fed
+returns-then-visit-clause-fed g c i j state before second has =
+    subst (λ (b : Bool). HasNext (g.G.VertexProgram.model c.args.program.now) c.feed_ahead.new.self j state (before ++ fed_if b c.args.edges.now)) (sym c.if-visit.true)
+    (c.feed_ahead.ensures.fed i j state before (second c.if-visit.true) has)

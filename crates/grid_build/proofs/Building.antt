@@ -1,12 +1,13 @@
 -- The steps of the builder, one after another.
-use Rattle.std.proofs.Common.{◌≡◌, ◌≤◌, ◌<◌, ◌*◌, ℕ, true, false, List, [], ◌∷◌, length, Option, Some, None, Result, Ok, Err, All, refl, sym, ap, ◌∙◌, subst, arith}
+use Rattle.std.proofs.Common.{◌≡◌, ◌≤◌, ◌<◌, ◌*◌, ℕ, true, false, List, [], ◌∷◌, length, flat_map, Option, Some, None, Result, Ok, Err, All, refl, sym, ap, ◌∙◌, subst, arith}
 use Rattle.std.specs.Prelude.{IfSome, OnOk, is_some}
 use Rattle.std.specs.List.{AllByRecursion}
-use Rattle.std.specs.Option.{option_map}
+use Rattle.std.specs.Option.{ok_or, option_map}
 use Rattle.std.proofs.lemmas.List.Elements.{All-from_recursion, All-head}
 use Rattle.std.proofs.lemmas.Option.{same_Some}
 use Rattle.lumos_base.specs.Records.{IsEdge, edge_bytes}
 use Rattle.lumos_base.specs.declared.records.Edge.{Edge}
+use Rattle.lumos_depot.specs.Files.{SameBut}
 use Rattle.lumos_depot.specs.declared.depot.DepotFault.{DepotFault}
 use Rattle.lumos_depot.specs.declared.depot.DepotFault.TheVariants.{Failed, NoMemory}
 use Rattle.lumos_depot.specs.declared.depot.FileKind.{FileKind}
@@ -15,16 +16,22 @@ use Rattle.edge_text.specs.Reading.{Listed, reading}
 use Rattle.edge_text.specs.declared.fault.TextLimits.{TextLimits}
 use Rattle.edge_text.proofs.Fits.{IsEdgeWithin, StatesFew, reading_within}
 use Rattle.partition.specs.Blocks.{IsBelow}
+use Rattle.partition.specs.Fitting.{least_parts, need_at}
 use Rattle.partition.specs.Parts.{Cut, chunk_of}
 use Rattle.grid_format.specs.Checks.{GridFiles}
 use Rattle.grid_format.specs.Grid.{HasGrid}
 use Rattle.grid_format.proofs.BlockPlaces.{length-each}
-use Rattle.grid_build.specs.Built.{HasBuilt, HasFiles, fault_of}
+use Rattle.grid_build.specs.Built.{HasBuilt, HasFiles, IsUnfit, fault_of}
+use Rattle.grid_build.specs.Chosen.{parts_for}
+use Rattle.grid_build.specs.declared.options.BuildFault.{BuildFault}
+use Rattle.grid_build.specs.declared.options.BuildFault.TheVariants.{BudgetTooSmall}
+use Rattle.grid_build.specs.declared.options.PartsChoice.{PartsChoice}
+use Rattle.grid_build.specs.declared.options.PartsChoice.TheVariants.{Stated, Fitted}
 use Rattle.grid_build.specs.Numbered.{IsCountedSpool}
 use Rattle.grid_build.specs.Outside.{LeavesRuns}
 use Rattle.lumos_depot.specs.Steps.{Moves}
 use Rattle.grid_build.specs.Passes.{IsSpool}
-use Rattle.grid_build.specs.Spooling.{IsSpooled}
+use Rattle.grid_build.specs.Spooling.{HasSpooled, IsSpooled}
 use Rattle.grid_build.specs.declared.spool.Spooled.{Spooled}
 use Rattle.grid_build.specs.Steps.{IsCounted, IsListed}
 
@@ -64,11 +71,11 @@ told_map None after x is h = absurd (let e : false ≡ true = is in cc)
 told_map (Some y) after x is h = h
 
 -- a read that stopped by a fault of the depot says nothing of its bytes
-pub stopped_outside : (limits : TextLimits) (p : ℕ) (left new : Option (List ℕ)) (before after : FileKind → Option (List ℕ)) (fault : DepotFault) → HasBuilt limits p left new before after (Err (fault_of fault))
-stopped_outside limits p None new before after Failed = record { bytes = []; told = λ all h. absurd (cc); builds = tt }
-stopped_outside limits p None new before after NoMemory = record { bytes = []; told = λ all h. absurd (cc); builds = tt }
-stopped_outside limits p (Some bytes) new before after Failed = record { bytes = bytes; told = λ all h. same_Some _ _ h; builds = tt }
-stopped_outside limits p (Some bytes) new before after NoMemory = record { bytes = bytes; told = λ all h. same_Some _ _ h; builds = tt }
+pub stopped_outside : (limits : TextLimits) (choice : PartsChoice) (left new : Option (List ℕ)) (before after : FileKind → Option (List ℕ)) (fault : DepotFault) → HasBuilt limits choice left new before after (Err (fault_of fault))
+stopped_outside limits choice None new before after Failed = record { bytes = []; told = λ all h. absurd (cc); builds = tt }
+stopped_outside limits choice None new before after NoMemory = record { bytes = []; told = λ all h. absurd (cc); builds = tt }
+stopped_outside limits choice (Some bytes) new before after Failed = record { bytes = bytes; told = λ all h. same_Some _ _ h; builds = tt }
+stopped_outside limits choice (Some bytes) new before after NoMemory = record { bytes = bytes; told = λ all h. same_Some _ _ h; builds = tt }
 
 numbers_of : (limits : TextLimits) (edges : List Edge) → limits.max_vertex ≤ 268435455 → AllByRecursion (IsEdgeWithin limits) edges → AllByRecursion IsEdge edges
 numbers_of limits [] low all = tt
@@ -115,10 +122,10 @@ some_vertex n [] ends h = absurd (omega arith)
 some_vertex n (e ∷ edges) ends h = let below = (All-head (IsBelow n) e edges ends).source in omega arith
 
 -- what was read into Spool is the list that the steps behind stand on
-pub spool_listed : (limits : TextLimits) (p : ℕ) (bytes : List ℕ) (spool : Option (List ℕ)) (spooled : Spooled) → AreLimits limits → 0 < p → p ≤ 256 → IsSpooled limits bytes spool spooled →
+pub spool_listed : (limits : TextLimits) (bytes : List ℕ) (spool : Option (List ℕ)) (spooled : Spooled) → AreLimits limits → IsSpooled limits bytes spool spooled →
     (spooled.vertices ≤ 268435456) × (spooled.edges ≤ 2147483648) × (0 < spooled.edges → 0 < spooled.vertices)
-spool_listed limits p bytes spool spooled h some few is =
-    let within = list_within limits p bytes is.list h some few is.is in
+spool_listed limits bytes spool spooled h is =
+    let within = list_within limits 1 bytes is.list h (omega arith) (omega arith) is.is in
     let edges = within.0.few in
     let vertices = within.0.vertices in (
       omega (arith, vertices, is.vertices),
@@ -127,9 +134,9 @@ spool_listed limits p bytes spool spooled h some few is =
           subst (λ n. 0 < n) (sym is.vertices) (some_vertex is.list.vertices is.list.edges within.0.ends (omega (arith, one, is.edges))),
     )
 
-pub spool_kept : (limits : TextLimits) (p : ℕ) (bytes : List ℕ) (spool : Option (List ℕ)) (spooled : Spooled) → AreLimits limits → 0 < p → p ≤ 256 → IsSpooled limits bytes spool spooled → IfSome spool (λ file. IsListed spooled.vertices spooled.edges (Some file))
-spool_kept limits p bytes spool spooled h some few is =
-    let within = list_within limits p bytes is.list h some few is.is in
+pub spool_kept : (limits : TextLimits) (bytes : List ℕ) (spool : Option (List ℕ)) (spooled : Spooled) → AreLimits limits → IsSpooled limits bytes spool spooled → IfSome spool (λ file. IsListed spooled.vertices spooled.edges (Some file))
+spool_kept limits bytes spool spooled h is =
+    let within = list_within limits 1 bytes is.list h (omega arith) (omega arith) is.is in
     if_some spool (λ file same. record {
       list = is.list.edges;
       kept = record { numbers = within.1; ends = subst (λ n. All (IsBelow n) is.list.edges) (sym is.vertices) within.0.ends; bytes = ap Some same };
@@ -209,3 +216,35 @@ files_by files was mid is None same tells first second h =
     let untold : (k : FileKind) → is_some (mid k) ≡ false = λ k. tells k Spool ∙ ap is_some same in
     files_untold files was is (λ k. sym (first k) ∙ untold k) (λ k. second k ∙ untold k)
 files_by files was mid is (Some file) same tells first second h = files_told files was mid is first (h file refl)
+
+same_told : (o was : Option (List ℕ)) (x : List ℕ) → is_some o ≡ is_some was → IfSome o (λ file. file ≡ x) → o ≡ option_map (λ _. x) was
+same_told None None x same h = refl
+same_told None (Some file) x same h = absurd (let e : false ≡ true = same in cc)
+same_told (Some file) None x same h = absurd (let e : true ≡ false = same in cc)
+same_told (Some file) (Some other) x same h = ap Some h
+
+-- where an answer that may be missing is a fault, the fault is this one
+missing_is : (o : Option ℕ) (e fault : BuildFault) → ok_or o e ≡ Err fault → fault ≡ e
+missing_is None e fault h = cc
+missing_is (Some p) e fault h = absurd (cc)
+
+-- a choice refuses for the budget alone
+pub refuses_small : (choice : PartsChoice) (n : ℕ) (fault : BuildFault) → parts_for choice n ≡ Err fault → (need : ℕ) × (given : ℕ) × (fault ≡ BudgetTooSmall need given)
+refuses_small (Stated parts) n fault h = absurd (cc)
+refuses_small (Fitted per_vertex budget) n fault h = (need_at n per_vertex 256, budget, missing_is (least_parts n per_vertex budget 16) _ fault h)
+
+-- the list was read into Spool, and the choice refused it
+pub unfit_built : (limits : TextLimits) (choice : PartsChoice) (old new : Option (List ℕ)) (before after : FileKind → Option (List ℕ)) (spooled : Spooled) (fault : BuildFault) → HasSpooled limits old new (after Spool) (Ok spooled) → parts_for choice spooled.vertices ≡ Err fault →
+    SameBut Spool before after → Steps before after → HasBuilt limits choice old new before after (Err fault)
+unfit_built limits choice old new before after spooled fault read refused same step =
+    let small = refuses_small choice spooled.vertices fault refused in
+    let is = read.reads.0 in
+    let unfit : IsUnfit limits choice read.bytes before after (BudgetTooSmall small.0 small.1) = record {
+      list = is.list;
+      is = is.is;
+      refused = subst (λ n. parts_for choice n ≡ Err (BudgetTooSmall small.0 small.1)) is.vertices (refused ∙ ap Err small.2);
+      grid_files = same;
+      spool_file = same_told (after Spool) (before Spool) (flat_map edge_bytes is.list.edges) (step Spool) is.kept;
+    } in
+    let built : HasBuilt limits choice old new before after (Err (BudgetTooSmall small.0 small.1)) = record { bytes = read.bytes; told = read.told; builds = (unfit, read.reads.1) } in
+    subst (λ f. HasBuilt limits choice old new before after (Err f)) (sym small.2) built

@@ -1,8 +1,8 @@
 -- The bytes of what leads out of vertices, piece after piece of them.
-use Rattle.std.proofs.Common.{◌≡◌, ◌≤◌, ◌<◌, ◌*◌, ◌+◌, ◌-◌, ℕ, List, [], ◌++◌, length, get_or, take, drop, refl, sym, ap, ◌∙◌, arith, Option, Some, None, append_assoc, append-nil, length-append, length-drop, ap₂}
+use Rattle.std.proofs.Common.{◌≡◌, ◌≤◌, ◌<◌, ◌*◌, ◌+◌, ◌-◌, ℕ, List, [], ◌++◌, length, get_or, take, drop, refl, sym, ap, ◌∙◌, arith, Option}
 use Rattle.std.specs.Prelude.{flat_map, IfSome}
 use Rattle.std.specs.Option.{option_map}
-use Rattle.std.proofs.lemmas.List.{drop_at, drop-drop, flat_map_more, length-take-le, take-append-drop, take_at, take_more}
+use Rattle.std.proofs.lemmas.List.{flat_map_more, length-take-le, take_more}
 use Rattle.std.proofs.lemmas.List.Concat.{flat_map-append}
 use Rattle.std.proofs.Math.Seq.{take-add}
 use Rattle.lumos_base.specs.Records.{info_bytes}

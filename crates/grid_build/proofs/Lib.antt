@@ -1,4 +1,5 @@
 pub mod Building
+pub mod ChoiceLemmas
 pub mod CopyLemmas
 pub mod CountLemmas
 pub mod EdgeBytes

@@ -46,6 +46,6 @@ StopsAt limits old new (Input fault) = StopsIn limits 65536 old new
 StopsAt limits old new (TooManyEdges limit) = StopsIn limits 65536 old new
 StopsAt limits old new (InputTooLong limit) = StopsIn limits 65536 old new
 StopsAt limits old new Read = StopsIn limits 0 old new
-StopsAt limits old new (BudgetTooSmall need given) = ⊥
+StopsAt limits old new (BudgetTooSmall need given) = Unit {0}
 StopsAt limits old new Depot = Unit {0}
 StopsAt limits old new NoMemory = Unit {0}

@@ -1,4 +1,5 @@
 pub mod Built
+pub mod Chosen
 pub mod Copied
 pub mod Counted
 pub mod Growing

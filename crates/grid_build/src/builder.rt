@@ -7,7 +7,8 @@ ghost use Rattle.lumos_depot.specs.declared.depot.FileKind.{FileKind};
 ghost use Rattle.partition.specs.Parts.{chunk_of};
 ghost use Rattle.grid_format.specs.Grid.{grid};
 ghost use Rattle.grid_format.specs.Heads.{IsHead, meta_bytes};
-ghost use Rattle.grid_build.specs.Built.{HasBuilt, HasFiles, StoresGrid, fault_of, parts_of};
+ghost use Rattle.grid_build.specs.Built.{HasBuilt, HasFiles, StoresGrid, fault_of};
+ghost use Rattle.grid_build.specs.Chosen.{MayChoose, parts_for};
 ghost use Rattle.grid_build.specs.Copied.{CopiesAll, low_total_of};
 ghost use Rattle.grid_build.specs.Growing.{GrowsBy, StopsAt};
 ghost use Rattle.grid_build.specs.Outside.{LeavesRuns};
@@ -24,7 +25,7 @@ use crate::tallies::write_info;
 use crate::{BuildFault, BuildOptions, PartsChoice};
 use grid_format::{GridInfo, write_meta};
 use lumos_depot::{Depot, DepotFault, FileKind, Source};
-use partition::Parts;
+use partition::{Parts, least_parts};
 use std::alloc::Global;
 
 // Gives a file of the grid its length.
@@ -188,12 +189,25 @@ fn cut(vertices: u32, parts: u32) -> Parts
     cut
 }
 
-// The parts that were chosen.
-fn stated_parts(choice: PartsChoice) -> u32
-    ensures { result ≡ parts_of choice }
+// The parts that so many vertices get by what was chosen.
+fn choose_parts(choice: PartsChoice, vertices: u32) -> Result<u32, BuildFault>
+    requires choice { MayChoose choice }
+    requires few_vertices { vertices ≤ 268435456 }
+    ensures value { result ≡ parts_for choice vertices }
+    ensures some { IfOk result (λ parts. 0 < parts) }
+    ensures few { IfOk result (λ parts. parts ≤ 256) }
 {
     match choice {
-        PartsChoice::Stated(parts) => parts,
+        PartsChoice::Stated(parts) => Ok(parts),
+        PartsChoice::Fitted { per_vertex, budget } => {
+            match least_parts(vertices, per_vertex, budget, 16) {
+                Some(parts) => Ok(parts),
+                None => Err(BuildFault::BudgetTooSmall {
+                    need: u64::from(cut(vertices, 256).chunk()) * per_vertex,
+                    given: budget,
+                }),
+            }
+        }
     }
 }
 
@@ -207,15 +221,15 @@ fn depot_fault(fault: DepotFault) -> BuildFault
     }
 }
 
-/// Builds in the attached directory the grid of the edge list of a source, over so many parts as are stated, from 1 to
-/// 256, and answers its head. The limits of the text are those of `EdgeReader::new`. The grid is GridGraph's, its files
-/// are our own.
+/// Builds in the attached directory the grid of the edge list of a source, over as many parts as were chosen, and answers
+/// its head. The limits of the text are those of `EdgeReader::new`. The grid is GridGraph's, its files are our own.
 ///
-/// The list goes into Spool in the order of the input, to its end; then Meta is cut to length 0, the blocks are counted,
-/// the other files get their lengths, the edges are sorted into their blocks in Primary, the blocks on the diagonal and
-/// below it are copied into Secondary, what leads out of each vertex is tallied, Spool is emptied, and Meta is written,
-/// its first eight bytes last. The copy is the only reading of Primary: it takes as many bytes there as it stores in
-/// Secondary. At most 12 bytes are stored in Spool for each edge of the text that was taken.
+/// The list goes into Spool in the order of the input, to its end; then the number of parts is known. Where it is to fit
+/// a budget, it is the least from 16 to 256 that does. Then Meta is cut to length 0, the blocks are counted, the other
+/// files get their lengths, the edges are sorted into their blocks in Primary, the blocks on the diagonal and below it are
+/// copied into Secondary, what leads out of each vertex is tallied, Spool is emptied, and Meta is written, its first eight
+/// bytes last. The copy is the only reading of Primary: it takes as many bytes there as it stores in Secondary. At most 12
+/// bytes are stored in Spool for each edge of the text that was taken.
 ///
 /// - `Input`, `TooManyEdges`, `InputTooLong`: exactly where the text has that fault, which the last piece of at most 65536
 ///   bytes that was taken shows. The grid that was there stays.
@@ -223,7 +237,8 @@ fn depot_fault(fault: DepotFault) -> BuildFault
 ///   there stays.
 /// - `Depot`: only where the depot's count of faults rose.
 /// - `NoMemory` is want of memory, and comes before anything is stored in Meta.
-/// - `BudgetTooSmall` never comes, since the parts are stated.
+/// - `BudgetTooSmall`: exactly where the parts are to fit a budget, the list was read to its end, and no number from 16 to
+///   256 fits; with what 256 parts need, and the budget. Spool has the list's edges, and the grid that was there stays.
 ///
 /// Over a depot that tells nothing the grid is that of the edges that were read back; an end that isn't among the
 /// vertices counts as the last of them. The copy goes by the blocks that were counted, and stays inside both files.
@@ -234,13 +249,12 @@ pub fn build<I: Source, D: Depot>(
     options: &BuildOptions,
 ) -> Result<GridInfo, BuildFault>
     requires attached { IsSome (D.attached depot.old) }
-    requires some_parts { 0 < parts_of options.now.parts }
-    requires few_parts { parts_of options.now.parts ≤ 256 }
+    requires choice { MayChoose options.now.parts }
     requires vertex { options.now.limits.max_vertex ≤ 268435455 }
     requires vertices { IfSome options.now.limits.vertices (λ vertices. vertices ≤ 268435456) }
     requires edges { options.now.limits.max_edges ≤ 2147483648 }
     requires bytes { options.now.limits.max_bytes ≤ 1099511627776 }
-    ensures grid { HasBuilt options.now.limits (parts_of options.now.parts) (I.left input.old) (I.left input.new) (D.holds depot.old) (D.holds depot.new) result }
+    ensures grid { HasBuilt options.now.limits options.now.parts (I.left input.old) (I.left input.new) (D.holds depot.old) (D.holds depot.new) result }
     ensures version { IfOk result (λ info. info.version ≡ 1) }
     ensures limits { IfOk result IsHead }
     ensures memory { IsErrOf result BuildFault.NoMemory → D.stored depot.new FileKind.Meta ≡ D.stored depot.old FileKind.Meta }
@@ -260,8 +274,11 @@ pub fn build<I: Source, D: Depot>(
         Ok(spooled) => spooled,
         Err(fault) => return Err(fault),
     };
-    let parts = cut(spooled.vertices, stated_parts(options.parts));
-    match write_grid(alloc, depot, parts, spooled.edges) {
+    let parts = match choose_parts(options.parts, spooled.vertices) {
+        Ok(parts) => parts,
+        Err(unfit) => return Err(unfit),
+    };
+    match write_grid(alloc, depot, cut(spooled.vertices, parts), spooled.edges) {
         Ok(info) => Ok(info),
         Err(fault) => Err(depot_fault(fault)),
     }

@@ -25,6 +25,9 @@ no words||||lumos: usage: no command
 @share|replay pagerank --share 1001|||lumos: usage: number outside its range for --share
 @from|run paths --from 268435456 --seeds 0:4|||lumos: usage: number outside its range for --from
 @seeds|replay spreading --seeds 1:0,01:1|||lumos: usage: bad seeds
+@vertices of a sample|sample components --vertices 0|||lumos: usage: number outside its range for --vertices
+@seed|sample components --seed x --edges x|||lumos: usage: bad number for --seed
+@edges of a sample|sample components --edges 2147483649|||lumos: usage: number outside its range for --edges
 ";
 
 // Words that state too much.
@@ -34,6 +37,7 @@ parts of a run|run components --parts 300|||lumos: limit: parts 300 over 256
 @parts of a replay|replay components --parts 65|||lumos: limit: parts 65 over 64
 @vertices of a run|run components --vertices 268435457|||lumos: limit: vertices 268435457 over 268435456
 @vertices of a replay|replay components --vertices 4097|||lumos: limit: vertices 4097 over 4096
+@vertices of a sample|sample components --vertices 268435457|||lumos: limit: vertices 268435457 over 268435456
 ";
 
 // Lists with a faulty line.
@@ -81,6 +85,10 @@ edges|run components --max-edges 2|0 1
 @the budget|run components --parts 2 --budget 101|0 4
 3 1
 ||lumos: limit: budget needs 102 given 101
+@the budget, for any number of parts|run components --budget 33|0 4
+3 1
+||lumos: limit: budget needs 34 given 33
+@the budget of a sample|sample components --vertices 5 --budget 33|||lumos: limit: budget needs 34 given 33
 ";
 
 // Events that aren't legal.

@@ -19,7 +19,7 @@ build_read : (fault : BuildFault) (why : Stop) → BuildStops fault why → why 
 build_read (build.Input faulty) why is same = absurd (cc)
 build_read (build.TooManyEdges limit) why is same = absurd (cc)
 build_read (build.InputTooLong limit) why is same = absurd (cc)
-build_read (build.BudgetTooSmall need given) why is same = absurd is
+build_read (build.BudgetTooSmall need given) why is same = absurd (cc)
 build_read build.Read why is same = refl
 build_read build.Depot why is same = absurd (cc)
 build_read build.NoMemory why is same = absurd (cc)
@@ -28,7 +28,7 @@ build_depot : (fault : BuildFault) (why : Stop) → BuildStops fault why → why
 build_depot (build.Input faulty) why is same = absurd (cc)
 build_depot (build.TooManyEdges limit) why is same = absurd (cc)
 build_depot (build.InputTooLong limit) why is same = absurd (cc)
-build_depot (build.BudgetTooSmall need given) why is same = absurd is
+build_depot (build.BudgetTooSmall need given) why is same = absurd (cc)
 build_depot build.Read why is same = absurd (cc)
 build_depot build.Depot why is same = refl
 build_depot build.NoMemory why is same = absurd (cc)
@@ -37,7 +37,7 @@ build_write : (fault : BuildFault) (why : Stop) → BuildStops fault why → why
 build_write (build.Input faulty) why is same = cc
 build_write (build.TooManyEdges limit) why is same = cc
 build_write (build.InputTooLong limit) why is same = cc
-build_write (build.BudgetTooSmall need given) why is same = is
+build_write (build.BudgetTooSmall need given) why is same = cc
 build_write build.Read why is same = cc
 build_write build.Depot why is same = cc
 build_write build.NoMemory why is same = cc

@@ -1,6 +1,6 @@
 -- What a command over a grid comes to.
 use Rattle.std.proofs.Common.{◌≡◌, ◌≤◌, ◌<◌, inl, inr, ℕ, true, false, List, [], Option, Some, None, Result, Ok, Err, IsErrOf, IsOk, IsSome, is_some, length, refl, sym, ap, subst, ◌∙◌, arith}
-use Rattle.std.specs.Option.{option_map}
+use Rattle.std.specs.Option.{ok_or, option_map}
 use Rattle.std.proofs.lemmas.Bool.{le-ltb, lt-ltb}
 use Rattle.std.specs.Prelude.{IfErr, IfOk, IfSome, OnOk, unwrap_or, nat_lt, if◌then◌else◌}
 use Rattle.lumos_base.specs.declared.records.Edge.{Edge}
@@ -18,12 +18,16 @@ use Rattle.lumos_depot.specs.Steps.{RoseBy}
 use Rattle.grid_format.specs.declared.head.GridInfo.{GridInfo}
 use Rattle.grid_build.specs.Built.{BuildsAs, HasBuilt, HasFiles, IsBuilt}
 use Rattle.grid_build.specs.declared.options.BuildFault.{BuildFault}
+use Rattle.grid_build.specs.Chosen.{parts_for}
 use Rattle.grid_build.specs.declared.options.BuildFault.TheVariants as build_fault
+use Rattle.grid_build.specs.declared.options.PartsChoice.{PartsChoice}
+use Rattle.grid_build.specs.declared.options.PartsChoice.TheVariants.{Stated, Fitted}
+use Rattle.partition.specs.Fitting.{least_parts, need_at}
 use Rattle.grid_build.specs.Outside.{LeavesRuns as BuildLeaves}
 use Rattle.grid_build.proofs.Building.{AreLimits, list_within}
 use Rattle.lumos_depot.proofs.StepLemmas.{rose_then}
-use Rattle.lumos_top.specs.Answers.{Built, Did, Halted, Ran, built_head, built_on, copied_bytes, did_build, did_run, done_with, need_in, ran_as, ran_on, stated_parts}
-use Rattle.lumos_top.specs.Building.{BuildStops, IsGridOf}
+use Rattle.lumos_top.specs.Answers.{Built, Did, Halted, Ran, built_head, built_on, copied_bytes, did_build, did_run, done_with, halted, need_in, parts_or, ran_as, ran_on, ran_over, ran_parts, stated_parts, window_bytes}
+use Rattle.lumos_top.specs.Building.{BuildStops, IsGridOf, run_choice, stated_or}
 use Rattle.lumos_top.specs.Ends.{Ends, HasDone, IsBeforeRun, done_status, end_status}
 use Rattle.lumos_top.specs.Report.{grid_line}
 use Rattle.lumos_top.specs.Running.{DamageShown, EndShown, IsOverAt, IsOverIn, IsReportOf, IsTooSmall, IsWithin, IsWrongOf, Leaves, LeavesGrid, RoseRun, RunMoves, command_stop}
@@ -55,35 +59,44 @@ same_grid_files was is h = record {
   info_file = h Info (λ same. absurd (cc));
 }
 
+-- A command refuses the lists that a choice of parts refuses, with the same numbers.
+abbrev pub Refuses : (Listed → Result Did Halted) → PartsChoice → Type 0
+Refuses command choice = (list : Listed) (need given : ℕ) → parts_for choice list.vertices ≡ Err (build_fault.BudgetTooSmall need given) → command list ≡ Err (halted (refuse.BudgetTooSmall need given))
+
 -- a grid that wasn't built, and nothing was written
-unbuilt_ends : (command : Listed → Result Did Halted) (limits : TextLimits) (p : ℕ) (bytes : List ℕ) (sides : Sides) (fault : BuildFault) (why : Stop) → BuildStops fault why → BuildsAs limits p bytes sides.left_old sides.left_new sides.was sides.is (Err fault) →
+unbuilt_ends : (command : Listed → Result Did Halted) (limits : TextLimits) (choice : PartsChoice) (bytes : List ℕ) (sides : Sides) (fault : BuildFault) (why : Stop) → Refuses command choice → BuildStops fault why → BuildsAs limits choice bytes sides.left_old sides.left_new sides.was sides.is (Err fault) →
     (IsErrOf {T = GridInfo} (Err fault) build_fault.NoMemory → NoMeta sides) → sides.new_out ≡ sides.old_out → Ends (done_with command (reading limits bytes)) sides (Err why)
-unbuilt_ends command limits p bytes sides (build_fault.Input faulty) why is h none same =
+unbuilt_ends command limits choice bytes sides (build_fault.Input faulty) why fits is h none same =
     subst (λ w. Ends (done_with command (reading limits bytes)) sides (Err w)) (sym is) (record { built = None; gives = ap (done_with command) h.0; same = same; files = same_grid_files sides.was sides.is h.1 })
-unbuilt_ends command limits p bytes sides (build_fault.TooManyEdges limit) why is h none same =
+unbuilt_ends command limits choice bytes sides (build_fault.TooManyEdges limit) why fits is h none same =
     subst (λ w. Ends (done_with command (reading limits bytes)) sides (Err w)) (sym is) (record { built = None; gives = ap (done_with command) h.0; same = same; files = same_grid_files sides.was sides.is h.1 })
-unbuilt_ends command limits p bytes sides (build_fault.InputTooLong limit) why is h none same =
+unbuilt_ends command limits choice bytes sides (build_fault.InputTooLong limit) why fits is h none same =
     subst (λ w. Ends (done_with command (reading limits bytes)) sides (Err w)) (sym is) (record { built = None; gives = ap (done_with command) h.0; same = same; files = same_grid_files sides.was sides.is h.1 })
-unbuilt_ends command limits p bytes sides (build_fault.BudgetTooSmall need given) why is h none same = absurd h
-unbuilt_ends command limits p bytes sides build_fault.Read why is h none same =
+unbuilt_ends command limits choice bytes sides (build_fault.BudgetTooSmall need given) why fits is h none same =
+    subst (λ w. Ends (done_with command (reading limits bytes)) sides (Err w)) (sym is) (record { built = None; gives = ap (done_with command) h.0.is ∙ fits h.0.list need given h.0.refused; same = same; files = same_grid_files sides.was sides.is h.0.grid_files })
+unbuilt_ends command limits choice bytes sides build_fault.Read why fits is h none same =
     subst (λ w. Ends (done_with command (reading limits bytes)) sides (Err w)) (sym is) (record { same = same; files = same_grid_files sides.was sides.is h })
-unbuilt_ends command limits p bytes sides build_fault.Depot why is h none same =
+unbuilt_ends command limits choice bytes sides build_fault.Depot why fits is h none same =
     subst (λ w. Ends (done_with command (reading limits bytes)) sides (Err w)) (sym is) (inl same)
-unbuilt_ends command limits p bytes sides build_fault.NoMemory why is h none same =
+unbuilt_ends command limits choice bytes sides build_fault.NoMemory why fits is h none same =
     subst (λ w. Ends (done_with command (reading limits bytes)) sides (Err w)) (sym is) (record { same = same; files = inl (none refl) })
 
-pub unbuilt_done : (command : Listed → Result Did Halted) (limits : TextLimits) (p : ℕ) (sides : Sides) (fault : BuildFault) (why : Stop) → BuildStops fault why → HasBuilt limits p sides.left_old sides.left_new sides.was sides.is (Err fault) →
+pub unbuilt_done : (command : Listed → Result Did Halted) (limits : TextLimits) (choice : PartsChoice) (sides : Sides) (fault : BuildFault) (why : Stop) → Refuses command choice → BuildStops fault why → HasBuilt limits choice sides.left_old sides.left_new sides.was sides.is (Err fault) →
     (IsErrOf {T = GridInfo} (Err fault) build_fault.NoMemory → NoMeta sides) → sides.new_out ≡ sides.old_out → HasDone command limits sides (Err why)
-unbuilt_done command limits p sides fault why is h none same = record {
+unbuilt_done command limits choice sides fault why fits is h none same = record {
   input = h.bytes;
   files = contents sides.was;
   entry = entry_of h.bytes sides h.told;
-  ends = unbuilt_ends command limits p h.bytes sides fault why is h.builds none same;
+  ends = unbuilt_ends command limits choice h.bytes sides fault why fits is h.builds none same;
 }
 
--- the line of the grid of a list
-line_is : (limits : TextLimits) (bytes : List ℕ) (was is : FileKind → Option (List ℕ)) (words : BuildWords) (info : GridInfo) (b : IsBuilt limits (stated_parts words) bytes was is info) → grid_line info.vertices info.edges info.parts ≡ (did_build words b.list).text
-line_is limits bytes was is words info b = ap (λ (i : GridInfo). grid_line i.vertices i.edges i.parts) b.head
+-- the grid that was built of a list, over the parts that it got
+abbrev pub own_of : Listed → GridInfo → Built
+own_of list info = record { list = list; parts = info.parts }
+
+-- its line
+line_is : (limits : TextLimits) (choice : PartsChoice) (bytes : List ℕ) (was is : FileKind → Option (List ℕ)) (info : GridInfo) (b : IsBuilt limits choice bytes was is info) → grid_line info.vertices info.edges info.parts ≡ (did_build (own_of b.list info)).text
+line_is limits choice bytes was is info b = ap (λ (i : GridInfo). grid_line i.vertices i.edges i.parts) b.head
 
 pub written_whole : (old new : Option (List ℕ)) (r : Result (Unit {0}) Failed) (text : List ℕ) → IsOk r → Writes old new r text → new ≡ after_told old text
 written_whole old new (Ok done) text ok wrote = wrote.whole
@@ -114,16 +127,16 @@ files_are own files was is h k =
     ∙ ap (λ (x : List ℕ). record { meta = own.meta; primary = own.primary; secondary = own.secondary; info = x }) info
 
 -- the files that were built are those of a grid with their head
-pub accepted : (limits : TextLimits) (p : ℕ) (bytes : List ℕ) (was is : FileKind → Option (List ℕ)) (info : GridInfo) (files : GridFiles) → ((edges : List Edge) (n p : ℕ) → HasGrid edges n p → IsRead edges n p) → IsBuilt limits p bytes was is info → Holds is files → head_of files ≡ Ok info
-accepted limits p bytes was is info files law b holds =
-    ap head_of (files_are (grid b.list.edges b.list.vertices p) files was is b.files holds)
-    ∙ (law b.list.edges b.list.vertices p b.within).head ∙ ap (λ (i : GridInfo). Ok i) (sym b.head)
+pub accepted : (limits : TextLimits) (choice : PartsChoice) (bytes : List ℕ) (was is : FileKind → Option (List ℕ)) (info : GridInfo) (files : GridFiles) → ((edges : List Edge) (n p : ℕ) → HasGrid edges n p → IsRead edges n p) → IsBuilt limits choice bytes was is info → Holds is files → head_of files ≡ Ok info
+accepted limits choice bytes was is info files law b holds =
+    ap head_of (files_are (grid b.list.edges b.list.vertices info.parts) files was is b.files holds)
+    ∙ (law b.list.edges b.list.vertices info.parts b.within).head ∙ ap (λ (i : GridInfo). Ok i) (sym b.head)
 
 -- the grid that was built is that of the list
-pub built_grid : (limits : TextLimits) (p : ℕ) (bytes : List ℕ) (was is : FileKind → Option (List ℕ)) (info : GridInfo) → ((j k : FileKind) → is_some (is j) ≡ is_some (is k)) → AreLimits limits → 0 < p → p ≤ 256 → (b : IsBuilt limits p bytes was is info) → IsGridOf b.list p info is
-built_grid limits p bytes was is info all h some few b =
-    let own = grid b.list.edges b.list.vertices p in record {
-      numbers = (list_within limits p bytes b.list h some few b.is).1;
+pub built_grid : (limits : TextLimits) (choice : PartsChoice) (bytes : List ℕ) (was is : FileKind → Option (List ℕ)) (info : GridInfo) → ((j k : FileKind) → is_some (is j) ≡ is_some (is k)) → AreLimits limits → (b : IsBuilt limits choice bytes was is info) → IsGridOf b.list info.parts info is
+built_grid limits choice bytes was is info all h b =
+    let own = grid b.list.edges b.list.vertices info.parts in record {
+      numbers = (list_within limits 1 bytes b.list h (omega arith) (omega arith) b.is).1;
       limits = b.within;
       head = b.head;
       holds = λ told. record {
@@ -172,24 +185,28 @@ copied_is own was is before after all h copied = λ told.
     subst (λ (o : Option (List ℕ)). IfSome o (λ file. RoseBy before after (length file))) (file_told (was Secondary) (is Secondary) own.secondary h.secondary_file (all Secondary Meta ∙ some)) copied
 
 -- A grid was built between these files and these counters, of a list that was read to the end of the input.
-pub record WasBuilt (limits : TextLimits) (p : ℕ) (left_old left_new : Option (List ℕ)) (was is : FileKind → Option (List ℕ)) (taken_was taken_is : FileKind → ℕ) (info : GridInfo) : Type 0 where
-  pub built : HasBuilt limits p left_old left_new was is (Ok info)
+pub record WasBuilt (limits : TextLimits) (choice : PartsChoice) (left_old left_new : Option (List ℕ)) (was is : FileKind → Option (List ℕ)) (taken_was taken_is : FileKind → ℕ) (info : GridInfo) : Type 0 where
+  pub built : HasBuilt limits choice left_old left_new was is (Ok info)
   pub all : (j k : FileKind) → is_some (is j) ≡ is_some (is k)
   pub copied : IfSome (is Secondary) (λ file. RoseBy (taken_was Primary) (taken_is Primary) (length file))
   pub unread : taken_is Secondary ≡ taken_was Secondary
 
 -- what it copied, by the list
-copied_of : (limits : TextLimits) (p : ℕ) (left_old left_new : Option (List ℕ)) (was is : FileKind → Option (List ℕ)) (taken_was taken_is : FileKind → ℕ) (info : GridInfo) (h : WasBuilt limits p left_old left_new was is taken_was taken_is info) →
-    WhereTold was (RoseBy (taken_was Primary) (taken_is Primary) (copied_bytes (record { list = h.built.builds.0.list; parts = p })))
-copied_of limits p left_old left_new was is taken_was taken_is info h =
-    let b = h.built.builds.0 in copied_is (grid b.list.edges b.list.vertices p) was is (taken_was Primary) (taken_is Primary) h.all b.files h.copied
+copied_of : (limits : TextLimits) (choice : PartsChoice) (left_old left_new : Option (List ℕ)) (was is : FileKind → Option (List ℕ)) (taken_was taken_is : FileKind → ℕ) (info : GridInfo) (h : WasBuilt limits choice left_old left_new was is taken_was taken_is info) →
+    WhereTold was (RoseBy (taken_was Primary) (taken_is Primary) (copied_bytes (own_of h.built.builds.0.list info)))
+copied_of limits choice left_old left_new was is taken_was taken_is info h =
+    let b = h.built.builds.0 in copied_is (grid b.list.edges b.list.vertices info.parts) was is (taken_was Primary) (taken_is Primary) h.all b.files h.copied
 
 -- the input was read to its end
 read_whole : (sides : Sides) (bytes : List ℕ) → ((all : List ℕ) → sides.left_old ≡ Some all → bytes ≡ all) → (sides.left_old ≡ Some bytes → sides.left_new ≡ Some []) → InputEnds true sides
 read_whole sides bytes told ended = λ all is. ended (is ∙ ap Some (sym (told all is)))
 
+-- the parts of a choice that states them
+stated_is : (parts p : ℕ) → ◌≡◌ {A = Result ℕ BuildFault} (Ok parts) (Ok p) → parts ≡ p
+stated_is parts p is = cc
+
 -- a grid that was built, and its line was written
-module _ (limits : TextLimits) (words : BuildWords) (sides : Sides) (info : GridInfo) (h : WasBuilt limits (stated_parts words) sides.left_old sides.left_new sides.was sides.is sides.taken_was sides.taken_is info) where
+module _ (limits : TextLimits) (words : BuildWords) (sides : Sides) (info : GridInfo) (h : WasBuilt limits (Stated (stated_parts words)) sides.left_old sides.left_new sides.was sides.is sides.taken_was sides.taken_is info) where
   pub built_done : Kept sides.taken_was sides.taken_is sides.stored_was sides.stored_is → sides.new_out ≡ after_told sides.old_out (grid_line info.vertices info.edges info.parts) → HasDone (built_on words) limits sides (Ok Build)
   built_done kept wrote =
       let b = h.built.builds.0 in record {
@@ -197,15 +214,15 @@ module _ (limits : TextLimits) (words : BuildWords) (sides : Sides) (info : Grid
         files = contents sides.was;
         entry = entry_of h.built.bytes sides h.built.told;
         ends = record {
-          did = did_build words b.list;
-          gives = ap (done_with (built_on words)) b.is;
+          did = did_build (own_of b.list info);
+          gives = ap (done_with (built_on words)) b.is ∙ ap (λ (p : ℕ). Ok (did_build (record { list = b.list; parts = p }))) (stated_is (stated_parts words) info.parts b.chosen);
           kind = refl;
           input = read_whole sides h.built.bytes h.built.told h.built.builds.1;
           shown = tt;
-          exact = record { status = refl; line = refl; written = wrote ∙ ap (after_told sides.old_out) (line_is limits h.built.bytes sides.was sides.is words info b) };
+          exact = record { status = refl; line = refl; written = wrote ∙ ap (after_told sides.old_out) (line_is limits (Stated (stated_parts words)) h.built.bytes sides.was sides.is info b) };
           files = b.files;
           moved = λ done. record {
-            primary = copied_of limits (stated_parts words) sides.left_old sides.left_new sides.was sides.is sides.taken_was sides.taken_is info h;
+            primary = copied_of limits (Stated (stated_parts words)) sides.left_old sides.left_new sides.was sides.is sides.taken_was sides.taken_is info h;
             secondary = stands (sides.taken_was Secondary) (sides.taken_is Secondary) h.unread;
             values_taken = stands (sides.taken_was Values) (sides.taken_is Values) kept.values_taken;
             values_stored = stands (sides.stored_was Values) (sides.stored_is Values) kept.values_stored;
@@ -222,9 +239,9 @@ module _ (limits : TextLimits) (words : BuildWords) (sides : Sides) (info : Grid
         files = contents sides.was;
         entry = entry_of h.built.bytes sides h.built.told;
         ends = record {
-          did = did_build words b.list;
-          gives = ap (done_with (built_on words)) b.is;
-          front = subst (AppendsFront sides.old_out sides.new_out) (line_is limits h.built.bytes sides.was sides.is words info b) front;
+          did = did_build (own_of b.list info);
+          gives = ap (done_with (built_on words)) b.is ∙ ap (λ (p : ℕ). Ok (did_build (record { list = b.list; parts = p }))) (stated_is (stated_parts words) info.parts b.chosen);
+          front = subst (AppendsFront sides.old_out sides.new_out) (line_is limits (Stated (stated_parts words)) h.built.bytes sides.was sides.is info b) front;
           files = b.files;
         };
       }
@@ -242,22 +259,52 @@ too_small : (own : Built) (did : Did) (need budget needed given : ℕ) → budge
     ◌≡◌ {A = Result Did Halted} (if nat_lt budget need then Err (record { why = stop.Refused (refuse.BudgetTooSmall need budget); built = Some own }) else Ok did) (Err (record { why = stop.Refused (refuse.BudgetTooSmall needed given); built = Some own }))
 too_small own did need budget needed given small needs gives = let e : nat_lt budget need ≡ true = lt-ltb budget need small in rw (e, needs, gives) refl
 
+-- the parts that a run's grid gets, by the choice
+some_by : {A E : Type 0} (o : Option A) (fault : E) (x : A) → ok_or o fault ≡ Ok x → o ≡ Some x
+some_by None fault x is = absurd (cc)
+some_by (Some y) fault x is = cc
+
+none_by : {A E : Type 0} (o : Option A) (fault why : E) → ok_or o fault ≡ Err why → (o ≡ None) × (fault ≡ why)
+none_by None fault why is = (refl, cc)
+none_by (Some y) fault why is = absurd (cc)
+
+got_by : (stated : Option ℕ) (w budget n p : ℕ) → parts_for (stated_or stated (Fitted w budget)) n ≡ Ok p → parts_or stated (least_parts n w budget 16) ≡ Some p
+got_by (Some q) w budget n p is = cc
+got_by None w budget n p is = some_by (least_parts n w budget 16) (build_fault.BudgetTooSmall (need_at n w 256) budget) p is
+
+unfit_by : (stated : Option ℕ) (w budget n need given : ℕ) → parts_for (stated_or stated (Fitted w budget)) n ≡ Err (build_fault.BudgetTooSmall need given) → (parts_or stated (least_parts n w budget 16) ≡ None) × (build_fault.BudgetTooSmall (need_at n w 256) budget ≡ build_fault.BudgetTooSmall need given)
+unfit_by (Some q) w budget n need given is = absurd (cc)
+unfit_by None w budget n need given is = none_by (least_parts n w budget 16) (build_fault.BudgetTooSmall (need_at n w 256) budget) (build_fault.BudgetTooSmall need given) is
+
+same_refusal : (need given needed gave : ℕ) → build_fault.BudgetTooSmall need given ≡ build_fault.BudgetTooSmall needed gave → halted (refuse.BudgetTooSmall need given) ≡ halted (refuse.BudgetTooSmall needed gave)
+same_refusal need given needed gave is = cc
+
+-- a run refuses the lists that its choice refuses, and a build none
+pub run_refuses : (program : ProgramWords) (words : BuildWords) (iterate : IterWords) → Refuses (ran_on program words iterate) (run_choice program words iterate)
+run_refuses program words iterate = λ list need given is.
+    let w = window_bytes program in
+    let h = unfit_by words.parts w iterate.budget list.vertices need given is in
+    ap (ran_parts program iterate list) h.0 ∙ ap Err (same_refusal (need_at list.vertices w 256) iterate.budget need given h.1)
+
+pub build_refuses : (words : BuildWords) (parts : ℕ) → Refuses (built_on words) (Stated parts)
+build_refuses words parts = λ list need given is. absurd (cc)
+
 -- A program ran over the grid that was built, between the build and the end.
-module _ (program : ProgramWords) (words : BuildWords) (iterate : IterWords) (limits : TextLimits) (sides : Sides) (mid : FileKind → Option (List ℕ)) (taken_mid stored_mid : FileKind → ℕ) (info : GridInfo) (h : WasBuilt limits (stated_parts words) sides.left_old sides.left_new sides.was mid sides.taken_was taken_mid info) (same : LeavesGrid mid sides.is) where
+module _ (program : ProgramWords) (words : BuildWords) (iterate : IterWords) (limits : TextLimits) (sides : Sides) (mid : FileKind → Option (List ℕ)) (taken_mid stored_mid : FileKind → ℕ) (info : GridInfo) (h : WasBuilt limits (run_choice program words iterate) sides.left_old sides.left_new sides.was mid sides.taken_was taken_mid info) (same : LeavesGrid mid sides.is) where
   abbrev own_list : Listed
   own_list = h.built.builds.0.list
 
-  abbrev own_did : Did
-  own_did = did_run program words iterate own_list
-
   abbrev own_grid : Built
-  own_grid = record { list = own_list; parts = stated_parts words }
+  own_grid = own_of own_list info
+
+  abbrev own_did : Did
+  own_did = did_run program iterate own_grid
 
   abbrev own_need : ℕ
   own_need = need_in program (built_head own_grid)
 
-  own_reads : done_with (ran_on program words iterate) (reading limits h.built.bytes) ≡ ran_on program words iterate own_list
-  own_reads = ap (done_with (ran_on program words iterate)) h.built.builds.0.is
+  own_reads : done_with (ran_on program words iterate) (reading limits h.built.bytes) ≡ ran_over program iterate own_grid
+  own_reads = ap (done_with (ran_on program words iterate)) h.built.builds.0.is ∙ ap (ran_parts program iterate own_list) (got_by words.parts (window_bytes program) iterate.budget own_list.vertices info.parts h.built.builds.0.chosen)
 
   own_gives : own_need ≤ iterate.budget → done_with (ran_on program words iterate) (reading limits h.built.bytes) ≡ Ok own_did
   own_gives enough = own_reads ∙ fits own_grid own_did own_need iterate.budget enough
@@ -266,9 +313,9 @@ module _ (program : ProgramWords) (words : BuildWords) (iterate : IterWords) (li
   own_within r within = subst (λ (i : GridInfo). IsWithin (need_in program i) iterate.budget r) h.built.builds.0.head within
 
   abbrev own_ran : Ran
-  own_ran = ran_as program (stated_parts words) iterate own_list
+  own_ran = ran_as program info.parts iterate own_list
 
-  own_files : HasFiles (grid own_list.edges own_list.vertices (stated_parts words)) sides.was sides.is
+  own_files : HasFiles (grid own_list.edges own_list.vertices info.parts) sides.was sides.is
   own_files = still_files _ sides.was mid sides.is same h.built.builds.0.files
 
   told_still : IsSome (sides.was Meta) → IsSome (mid Meta)
@@ -276,7 +323,7 @@ module _ (program : ProgramWords) (words : BuildWords) (iterate : IterWords) (li
 
   both_moved : Kept sides.taken_was taken_mid sides.stored_was stored_mid → WhereTold mid (RoseRun own_ran.moved taken_mid sides.taken_is stored_mid sides.stored_is) → IsMoved own_did.run own_did.moved sides
   both_moved kept moves = record {
-    primary = λ told. rose_then (sides.taken_was Primary) (taken_mid Primary) (sides.taken_is Primary) (copied_bytes own_grid) own_ran.moved.primary_taken (copied_of limits (stated_parts words) sides.left_old sides.left_new sides.was mid sides.taken_was taken_mid info h told) (moves (told_still told)).primary;
+    primary = λ told. rose_then (sides.taken_was Primary) (taken_mid Primary) (sides.taken_is Primary) (copied_bytes own_grid) own_ran.moved.primary_taken (copied_of limits (run_choice program words iterate) sides.left_old sides.left_new sides.was mid sides.taken_was taken_mid info h told) (moves (told_still told)).primary;
     secondary = λ told. subst (λ (k : ℕ). RoseBy k (sides.taken_is Secondary) own_ran.moved.secondary_taken) h.unread (moves (told_still told)).secondary;
     values_taken = λ told. subst (λ (k : ℕ). RoseBy k (sides.taken_is Values) own_ran.moved.values_taken) kept.values_taken (moves (told_still told)).values_taken;
     values_stored = λ told. subst (λ (k : ℕ). RoseBy k (sides.stored_is Values) own_ran.moved.values_stored) kept.values_stored (moves (told_still told)).values_stored;
@@ -376,13 +423,9 @@ module _ {D : Type 0} (h : D → FileKind → Option (List ℕ)) (t s : D → Fi
     sums_stored = b.sums_stored;
   }
 
-pub builds_within : (limits : TextLimits) (p : ℕ) (left_old left_new : Option (List ℕ)) (was is : FileKind → Option (List ℕ)) (fault : BuildFault) (need given : ℕ) → HasBuilt limits p left_old left_new was is (Err fault) → fault ≡ build_fault.BudgetTooSmall need given → ⊥
-builds_within limits p left_old left_new was is fault need given h same =
-    let k : HasBuilt limits p left_old left_new was is (Err (build_fault.BudgetTooSmall need given)) = subst (λ f. HasBuilt limits p left_old left_new was is (Err f)) same h in k.builds
-
 -- a grid that wasn't built, for a cause that nothing is said of
-pub not_built : (limits : TextLimits) (p : ℕ) (left : Option (List ℕ)) (was is : FileKind → Option (List ℕ)) (fault : BuildFault) → ((bytes : List ℕ) → BuildsAs limits p bytes left left was is (Err fault)) → HasBuilt limits p left left was is (Err fault)
-not_built limits p left was is fault builds = record { bytes = unwrap_or left []; told = λ all h. all_told left all h; builds = builds (unwrap_or left []) }
+pub not_built : (limits : TextLimits) (choice : PartsChoice) (left : Option (List ℕ)) (was is : FileKind → Option (List ℕ)) (fault : BuildFault) → ((bytes : List ℕ) → BuildsAs limits choice bytes left left was is (Err fault)) → HasBuilt limits choice left left was is (Err fault)
+not_built limits choice left was is fault builds = record { bytes = unwrap_or left []; told = λ all h. all_told left all h; builds = builds (unwrap_or left []) }
 
 -- a grid has some parts
 some_of : (parts : Option ℕ) → IfSome parts (λ n. 1 ≤ n) → 1 ≤ unwrap_or parts 16

@@ -25,7 +25,7 @@ use Rattle.early_engine.specs.Report.{report}
 use Rattle.early_engine.specs.declared.options.Mode.{Mode}
 use Rattle.early_engine.specs.declared.options.Show.{Show}
 use Rattle.early_engine.specs.declared.options.Show.TheVariants.{All, Brief}
-use Rattle.lumos_top.specs.Answers.{Built, Did, Halted, answer, answer_to, built_head, did_replay, did_run, did_within, done_with, done_within, limits_of, limits_with, mode_of, need_in, parts_for, ran_on, replay_text, replay_vertices, replay_with, replay_within, show_of, stated_parts, vertices_within}
+use Rattle.lumos_top.specs.Answers.{Built, Did, Halted, answer, answer_to, built_head, did_replay, did_run, did_within, done_with, done_within, drawn, limits_of, limits_with, mode_of, need_in, ran_on, ran_parts, run_parts, unread, replay_text, replay_vertices, replay_with, replay_within, show_of, stated_parts, vertices_within}
 use Rattle.lumos_top.specs.Ends.{Ends, EndsOn, IsExact, end_status}
 use Rattle.lumos_top.specs.Meaning.{HasMeaning, Means, ReplayMeans, RunMeans, ShowsBeyond, ShowsStill, ShowsWalks, ShowsWithin, finals_with, report_with}
 use Rattle.lumos_top.specs.Programs.{chosen}
@@ -43,6 +43,7 @@ use Rattle.lumos_top.specs.declared.stream.StreamStop.{StreamStop}
 use Rattle.lumos_top.proofs.BothWays.{both_read}
 use Rattle.lumos_top.proofs.ListLemmas.{numbers_of}
 use Rattle.lumos_top.proofs.Outcomes.{came_to}
+use Rattle.lumos_top.proofs.SampleLemmas.{if_map}
 use Rattle.lumos_words.specs.Requests.{request}
 use Rattle.lumos_words.specs.declared.faults.UsageFault.{UsageFault}
 use Rattle.lumos_words.specs.declared.request.BuildWords.{BuildWords}
@@ -136,12 +137,12 @@ run_vertices words None limits is =
     subst (IsLimitOf words.both) same (record { low = omega arith; few = tt; ways = refl })
 run_vertices words (Some n) limits is = run_stated words n (nat_lt 268435456 n) limits refl is
 
-run_parts : (words : BuildWords) (b : Bool) (limits : TextLimits) → (if b then Err (Parts (stated_parts words) 256) else vertices_within words words.vertices) ≡ Ok limits → IsLimitOf words.both limits
-run_parts words true limits is = absurd (cc)
-run_parts words false limits is = run_vertices words words.vertices limits is
+run_few : (words : BuildWords) (b : Bool) (limits : TextLimits) → (if b then Err (Parts (stated_parts words) 256) else vertices_within words words.vertices) ≡ Ok limits → IsLimitOf words.both limits
+run_few words true limits is = absurd (cc)
+run_few words false limits is = run_vertices words words.vertices limits is
 
 run_limits : (words : BuildWords) (limits : TextLimits) → limits_of words ≡ Ok limits → IsLimitOf words.both limits
-run_limits words limits is = run_parts words (nat_lt 256 (stated_parts words)) limits is
+run_limits words limits is = run_few words (nat_lt 256 (stated_parts words)) limits is
 
 -- and of a replay
 replay_stated : (n : ℕ) (both b : Bool) (limits : TextLimits) → nat_lt 4096 n ≡ b → (if b then Err (Vertices n 4096) else Ok (replay_limits (Some n) both)) ≡ Ok limits → IsLimitOf both limits
@@ -190,22 +191,28 @@ ran_so sides completed false small did so = so
 
 module _ (sides : Sides) (completed : Completed) (input : List ℕ) where
   module _ (program : ProgramWords) (grid : BuildWords) (iterate : IterWords) (few : iterate.iterations ≤ 1000000) where
-    run_listed : (limits : TextLimits) (l : Result Listed TextFault) → limits_of grid ≡ Ok limits → reading limits input ≡ l → DidSo sides completed (done_with (ran_on program grid iterate) l) → WhereTold sides.was (RunMeans program grid iterate input sides)
-    run_listed limits (Ok list) within reads so = λ told.
+    run_fitted : (limits : TextLimits) (list : Listed) (fitted : Option ℕ) → limits_of grid ≡ Ok limits → reading limits input ≡ Ok list → run_parts program grid iterate list.vertices ≡ fitted → DidSo sides completed (ran_parts program iterate list fitted) → WhereTold sides.was (RunMeans program grid iterate input sides)
+    run_fitted limits list (Some parts) within reads fits so = λ told.
         let small = small_of grid.both limits input list (run_limits grid limits within) reads in
         let c = chosen program in
-        let own : Built = record { list = list; parts = parts_for grid list } in
+        let own : Built = record { list = list; parts = parts } in
         let need = need_in program (built_head own) in
         let small_budget : Halted = record { why = stop.Refused (refuse.BudgetTooSmall need iterate.budget); built = Some own } in record {
           limits = limits;
           within = within;
           list = list;
           reads = reads;
+          parts = parts;
+          fitted = fits;
           shown = shown_of program list;
-          written = (ran_so sides completed (nat_lt iterate.budget need) small_budget (did_run program grid iterate list) so told).written ∙ ap (after_told sides.old_out) (report_is c.program c.name (show_of iterate) (mode_of iterate) list.edges list.vertices (parts_for grid list) iterate.iterations);
+          written = (ran_so sides completed (nat_lt iterate.budget need) small_budget (did_run program iterate own) so told).written ∙ ap (after_told sides.old_out) (report_is c.program c.name (show_of iterate) (mode_of iterate) list.edges list.vertices parts iterate.iterations);
           walks = shows_walks list grid.both small program iterate.iterations few;
           still = λ t v ends below. shows_still list grid.both small program iterate.iterations t v few ends below;
         }
+    run_fitted limits list None within reads fits so = absurd so
+
+    run_listed : (limits : TextLimits) (l : Result Listed TextFault) → limits_of grid ≡ Ok limits → reading limits input ≡ l → DidSo sides completed (done_with (ran_on program grid iterate) l) → WhereTold sides.was (RunMeans program grid iterate input sides)
+    run_listed limits (Ok list) within reads so = run_fitted limits list (run_parts program grid iterate list.vertices) within reads refl so
     run_listed limits (Err fault) within reads so = absurd so
 
     run_means : (r : Result TextLimits TooMany) → limits_of grid ≡ r → DidSo sides completed (done_within (ran_on program grid iterate) r input) → WhereTold sides.was (RunMeans program grid iterate input sides)
@@ -249,11 +256,19 @@ module _ (sides : Sides) (completed : Completed) (input : List ℕ) where
     replay_means (Ok limits) within so = replay_streamed limits (streamed limits 1099511627776 input) within refl so
     replay_means (Err many) within so = absurd so
 
-  means_asked : (asked : Result Request UsageFault) (files : FileKind → List ℕ) → ((r : Request) → asked ≡ Ok r → IsFew r) → DidSo sides completed (answer_to asked input files) → Means asked input sides
-  means_asked (Ok (ask.Run program grid iterate)) files few so = run_means program grid iterate (few (ask.Run program grid iterate) refl) (limits_of grid) refl so
-  means_asked (Ok (ask.Build grid)) files few so = tt
-  means_asked (Ok (ask.Replay program parts vertices both)) files few so = replay_means program parts vertices both (replay_within parts vertices both) refl so
-  means_asked (Err fault) files few so = tt
+-- what was done with a list that is drawn, but for the input
+did_unread : (sides : Sides) (completed : Completed) (r : Result Did Halted) → DidSo sides completed (unread r) → DidSo sides completed r
+did_unread sides completed (Ok did) so = if_map did.run sides.was _ (IsExact did sides completed) (λ so. record { status = so.status; line = so.line; written = so.written }) so
+did_unread sides completed (Err halt) so = so
+
+means_asked : (sides : Sides) (completed : Completed) (input : List ℕ) (asked : Result Request UsageFault) (files : FileKind → List ℕ) → ((r : Request) → asked ≡ Ok r → IsFew r) → DidSo sides completed (answer_to asked input files) → Means asked input sides
+means_asked sides completed input (Ok (ask.Run program grid iterate)) files few so = run_means sides completed input program grid iterate (few (ask.Run program grid iterate) refl) (limits_of grid) refl so
+means_asked sides completed input (Ok (ask.Build grid)) files few so = tt
+means_asked sides completed input (Ok (ask.Replay program parts vertices both)) files few so = replay_means sides completed input program parts vertices both (replay_within parts vertices both) refl so
+means_asked sides completed input (Ok (ask.Sample program grid iterate seed edges)) files few so =
+    run_means sides completed (drawn grid seed edges) program grid iterate (few (ask.Sample program grid iterate seed edges) refl) (limits_of grid) refl
+    (did_unread sides completed (done_within (ran_on program grid iterate) (limits_of grid) (drawn grid seed edges)) so)
+means_asked sides completed input (Err fault) files few so = tt
 
 means_ended : (words : List (List ℕ)) (sides : Sides) (r : Result Completed Stop) (input : List ℕ) (files : FileKind → List ℕ) → IsOk r → Ends (answer words input files) sides r → Means (request words) input sides
 means_ended words sides (Ok completed) input files ok h =

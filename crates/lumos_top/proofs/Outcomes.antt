@@ -262,6 +262,7 @@ unless_run asked A r s is h = subst (λ (t : Status). UnlessRun asked t A) is h
 pub kept : (asked : Result Request UsageFault) (A : Type 0) (r : Result Completed Stop) (s : Status) → end_status r ≡ s → UnlessGrid asked (A × (r ≡ Err (stop.Outside outside.Depot) → ⊥)) → UnlessGrid asked (A × (s ≢ status.DepotFault))
 kept (Ok (ask.Run program grid iterate)) A r s is h = tt
 kept (Ok (ask.Build grid)) A r s is h = tt
+kept (Ok (ask.Sample program grid iterate seed edges)) A r s is h = tt
 kept (Ok (ask.Replay program parts vertices both)) A r s is h = (h.0, λ e. h.1 (came_to r s status.DepotFault is e))
 kept (Err fault) A r s is h = (h.0, λ e. h.1 (came_to r s status.DepotFault is e))
 

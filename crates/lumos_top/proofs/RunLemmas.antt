@@ -1,13 +1,14 @@
 -- What a run comes to.
 use Rattle.std.proofs.Common.{◌≡◌, ◌==◌, ℕ, Bool, true, false, nat_lt, List, [], Option, Some, None, Result, Ok, Err, refl, sym, ap, subst, ◌∙◌}
 use Rattle.std.specs.Prelude.{if◌then◌else◌, unwrap_or}
+use Rattle.partition.specs.Fitting.{need_at}
 use Rattle.partition.specs.Parts.{Cut, cut_of}
 use Rattle.partition.specs.declared.records.PartFault.TheVariants.{ZeroParts, TooManyParts, TooManyVertices}
 use Rattle.lumos_depot.specs.declared.depot.FileKind.{FileKind}
 use Rattle.edge_text.specs.Reading.{Listed, reading}
 use Rattle.edge_text.specs.declared.fault.TextFault.{TextFault}
 use Rattle.edge_text.specs.declared.fault.TextLimits.{TextLimits}
-use Rattle.lumos_top.specs.Answers.{Built, Did, Halted, answer, answer_to, built_head, built_on, did_run, done_with, done_within, halted, need_in, parts_for, ran_on}
+use Rattle.lumos_top.specs.Answers.{Built, Did, Halted, answer, answer_to, built_head, built_on, did_run, done_with, done_within, halted, need_in, ran_on, ran_parts, run_parts, window_bytes}
 use Rattle.lumos_top.specs.Ends.{Ends, EndsOn, HasDone}
 use Rattle.lumos_top.specs.Sides.{IsEntry, SameGrid, Sides}
 use Rattle.lumos_law.specs.Program.{Program}
@@ -72,11 +73,18 @@ asks_by true small halt did need given fault is why h =
     let other : stop.Refused (refuse.BudgetTooSmall need given) ≡ stop.Refused (refuse.Usage fault) = sym is ∙ ap (λ (x : Halted). x.why) same ∙ why in cc
 asks_by false small halt did need given fault is why h = cc
 
-pub run_asks : (program : ProgramWords) (words : BuildWords) (iterate : IterWords) → AsksAll (ran_on program words iterate)
-run_asks program words iterate = λ list fault halt why h.
-    let own : Built = record { list = list; parts = parts_for words list } in
+asks_over : (program : ProgramWords) (iterate : IterWords) (list : Listed) (parts : Option ℕ) (fault : UsageFault) (halt : Halted) → halt.why ≡ stop.Refused (refuse.Usage fault) → ran_parts program iterate list parts ≡ Err halt → ⊥
+asks_over program iterate list (Some parts) fault halt why h =
+    let own : Built = record { list = list; parts = parts } in
     let need = need_in program (built_head own) in
-    asks_by (nat_lt iterate.budget need) (record { why = stop.Refused (refuse.BudgetTooSmall need iterate.budget); built = Some own }) halt (did_run program words iterate list) need iterate.budget fault refl why h
+    asks_by (nat_lt iterate.budget need) (record { why = stop.Refused (refuse.BudgetTooSmall need iterate.budget); built = Some own }) halt (did_run program iterate own) need iterate.budget fault refl why h
+asks_over program iterate list None fault halt why h =
+    let need = need_at list.vertices (window_bytes program) 256 in
+    let same : halted (refuse.BudgetTooSmall need iterate.budget) ≡ halt = cc in
+    let other : stop.Refused (refuse.BudgetTooSmall need iterate.budget) ≡ stop.Refused (refuse.Usage fault) = ap (λ (x : Halted). x.why) same ∙ why in cc
+
+pub run_asks : (program : ProgramWords) (words : BuildWords) (iterate : IterWords) → AsksAll (ran_on program words iterate)
+run_asks program words iterate = λ list fault halt why h. asks_over program iterate list (run_parts program words iterate list.vertices) fault halt why h
 
 pub build_asks : (words : BuildWords) → AsksAll (built_on words)
 build_asks words = λ list fault halt why h. cc

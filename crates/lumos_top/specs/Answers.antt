@@ -1,12 +1,14 @@
 -- What words, an input and the files at entry come to: what is done, or why it isn't.
-use Rattle.std.specs.Prelude.{ℕ, ◌+◌, Bool, true, List, [], length, nat_lt, unwrap_or, Option, Some, None, Result, Ok, Err, if◌then◌else◌}
+use Rattle.std.specs.Prelude.{ℕ, ◌+◌, ◌*◌, Bool, true, false, List, [], length, nat_lt, unwrap_or, Option, Some, None, Result, Ok, Err, if◌then◌else◌}
 use Rattle.edge_text.specs.Reading.{Listed, reading}
 use Rattle.edge_text.specs.declared.fault.TextFault.{TextFault}
 use Rattle.edge_text.specs.declared.fault.TextLimits.{TextLimits}
 use Rattle.lumos_depot.specs.declared.depot.FileKind.{FileKind}
 use Rattle.lumos_depot.specs.declared.depot.FileKind.TheVariants as file
 use Rattle.lumos_law.specs.Program.{Program}
+use Rattle.graph_gen.specs.Generated.{generated}
 use Rattle.lumos_law.specs.Sync.{Ending, ending}
+use Rattle.partition.specs.Fitting.{least_parts, need_at}
 use Rattle.grid_format.specs.Checks.{GridFiles}
 use Rattle.grid_format.specs.Grid.{grid, grid_head}
 use Rattle.grid_format.specs.declared.head.GridInfo.{GridInfo}
@@ -29,7 +31,7 @@ use Rattle.lumos_words.specs.declared.request.BuildWords.{BuildWords}
 use Rattle.lumos_words.specs.declared.request.IterWords.{IterWords}
 use Rattle.lumos_words.specs.declared.request.ProgramWords.{ProgramWords}
 use Rattle.lumos_words.specs.declared.request.Request.{Request}
-use Rattle.lumos_words.specs.declared.request.Request.TheVariants.{Run, Build, Replay}
+use Rattle.lumos_words.specs.declared.request.Request.TheVariants.{Run, Build, Replay, Sample}
 use Rattle.lumos_top.specs.declared.status.Refusal.{Refusal}
 use Rattle.lumos_top.specs.declared.status.Refusal.TheVariants as refuse
 use Rattle.lumos_top.specs.declared.status.Status.{Status}
@@ -40,12 +42,22 @@ use Rattle.lumos_top.specs.declared.status.TooMany.{TooMany}
 use Rattle.lumos_top.specs.declared.status.TooMany.TheVariants.{Parts, Vertices}
 use Rattle.lumos_top.specs.declared.stream.StreamStop.{StreamStop}
 
--- over how many parts a grid is built: as many as are stated, or 16
+-- the parts that are stated, or 16, over which a build that states none makes its grid
 abbrev pub stated_parts : BuildWords → ℕ
 stated_parts words = unwrap_or words.parts 16
 
-abbrev pub parts_for : BuildWords → Listed → ℕ
-parts_for words list = stated_parts words
+-- how many bytes two values and two sums of a program have
+abbrev pub window_bytes : ProgramWords → ℕ
+window_bytes words = let c = chosen words in 2 * c.coding.value_width + 2 * c.coding.sum_width
+
+-- Over how many parts the grid of a run over n vertices is built: as many as are stated; or the least number from 16 on with
+-- which its windows fit the budget, if there is one.
+abbrev pub parts_or : Option ℕ → Option ℕ → Option ℕ
+parts_or (Some parts) least = Some parts
+parts_or None least = least
+
+abbrev pub run_parts : ProgramWords → BuildWords → IterWords → ℕ → Option ℕ
+run_parts program words iterate n = parts_or words.parts (least_parts n (window_bytes program) iterate.budget 16)
 
 -- how the list of a command is read
 abbrev pub limits_with : BuildWords → Option ℕ → TextLimits
@@ -159,10 +171,9 @@ halted why = record { why = stop.Refused why; built = None }
 abbrev pub copied_bytes : Built → ℕ
 copied_bytes built = length (built_files built).secondary
 
-abbrev pub did_run : ProgramWords → BuildWords → IterWords → Listed → Did
-did_run program words iterate list =
-    let own : Built = record { list = list; parts = parts_for words list } in
-    let ran = ran_as program own.parts iterate list in record {
+abbrev pub did_run : ProgramWords → IterWords → Built → Did
+did_run program iterate own =
+    let ran = ran_as program own.parts iterate own.list in record {
       text = ran.text;
       status = ending_status ran.ending;
       line = ending_line ran.ending;
@@ -172,28 +183,34 @@ did_run program words iterate list =
       moved = behind_copy (copied_bytes own) ran.moved;
     }
 
-abbrev pub did_build : BuildWords → Listed → Did
-did_build words list =
-    let own : Built = record { list = list; parts = parts_for words list } in record {
-      text = grid_line list.vertices (length list.edges) own.parts;
-      status = status.Done;
-      line = [];
-      reads = true;
-      built = Some own;
-      run = None;
-      moved = taken_blocks (copied_bytes own) 0;
-    }
+abbrev pub did_build : Built → Did
+did_build own = record {
+  text = grid_line own.list.vertices (length own.list.edges) own.parts;
+  status = status.Done;
+  line = [];
+  reads = true;
+  built = Some own;
+  run = None;
+  moved = taken_blocks (copied_bytes own) 0;
+}
 
--- What a run over the grid of a list comes to: it is refused where its windows need more than the budget, and the grid is built
--- by then.
-abbrev pub ran_on : ProgramWords → BuildWords → IterWords → Listed → Result Did Halted
-ran_on program words iterate list =
-    let own : Built = record { list = list; parts = parts_for words list } in
+-- What a run over a grid comes to: it is refused where its windows need more than the budget, and the grid is built by then.
+abbrev pub ran_over : ProgramWords → IterWords → Built → Result Did Halted
+ran_over program iterate own =
     let need = need_in program (built_head own) in
-    if nat_lt iterate.budget need then Err (record { why = stop.Refused (refuse.BudgetTooSmall need iterate.budget); built = Some own }) else Ok (did_run program words iterate list)
+    if nat_lt iterate.budget need then Err (record { why = stop.Refused (refuse.BudgetTooSmall need iterate.budget); built = Some own }) else Ok (did_run program iterate own)
+
+-- Over the parts that the grid of its list gets: where no number of parts fits, it is refused with what 256 parts need, and no
+-- grid is built.
+abbrev pub ran_parts : ProgramWords → IterWords → Listed → Option ℕ → Result Did Halted
+ran_parts program iterate list (Some parts) = ran_over program iterate (record { list = list; parts = parts })
+ran_parts program iterate list None = Err (halted (refuse.BudgetTooSmall (need_at list.vertices (window_bytes program) 256) iterate.budget))
+
+abbrev pub ran_on : ProgramWords → BuildWords → IterWords → Listed → Result Did Halted
+ran_on program words iterate list = ran_parts program iterate list (run_parts program words iterate list.vertices)
 
 abbrev pub built_on : BuildWords → Listed → Result Did Halted
-built_on words list = Ok (did_build words list)
+built_on words list = Ok (did_build (record { list = list; parts = stated_parts words }))
 
 -- what is done with a list that was read, or its fault
 abbrev pub done_with : (Listed → Result Did Halted) → Result Listed TextFault → Result Did Halted
@@ -231,10 +248,19 @@ abbrev pub did_within : ProgramWords → ℕ → Result TextLimits TooMany → L
 did_within program parts (Ok limits) input = replay_with program parts (streamed limits 1099511627776 input)
 did_within program parts (Err many) input = Err (halted (refuse.TooMany many))
 
+-- the list of a sample, which is drawn by a rule, and what a command comes to that reads such a list and no input
+abbrev pub drawn : BuildWords → ℕ → ℕ → List ℕ
+drawn grid seed edges = generated seed (unwrap_or grid.vertices 0) edges
+
+abbrev pub unread : Result Did Halted → Result Did Halted
+unread (Ok did) = Ok (record did { reads = false })
+unread (Err halt) = Err halt
+
 -- What an input and the files at entry come to, as asked.
 abbrev pub answer_to : Result Request UsageFault → List ℕ → (FileKind → List ℕ) → Result Did Halted
 answer_to (Ok (Run program grid iterate)) input files = done_within (ran_on program grid iterate) (limits_of grid) input
 answer_to (Ok (Build grid)) input files = done_within (built_on grid) (limits_of grid) input
+answer_to (Ok (Sample program grid iterate seed edges)) input files = unread (done_within (ran_on program grid iterate) (limits_of grid) (drawn grid seed edges))
 answer_to (Ok (Replay program parts vertices both)) input files = did_within program parts (replay_within parts vertices both) input
 answer_to (Err fault) input files = Err (halted (refuse.Usage fault))
 
@@ -250,13 +276,15 @@ stopped_by (Err many) = Some (refuse.TooMany many)
 abbrev pub refusal_of : Result Request UsageFault → Option Refusal
 refusal_of (Ok (Run program grid iterate)) = stopped_by (limits_of grid)
 refusal_of (Ok (Build grid)) = stopped_by (limits_of grid)
+refusal_of (Ok (Sample program grid iterate seed edges)) = stopped_by (limits_of grid)
 refusal_of (Ok (Replay program parts vertices both)) = stopped_by (replay_within parts vertices both)
 refusal_of (Err fault) = Some (refuse.Usage fault)
 
 abbrev pub refusal : List (List ℕ) → Option Refusal
 refusal words = refusal_of (request words)
 
--- the directory that words lead to, if they lead to one: that of a run or a build for which no stated number is too great
+-- the directory that words lead to, if they lead to one: that of a run, a build or a sample for which no stated number is too
+-- great
 abbrev pub place_within : Result TextLimits TooMany → List ℕ → Option (List ℕ)
 place_within (Ok limits) name = Some name
 place_within (Err many) name = None
@@ -264,6 +292,7 @@ place_within (Err many) name = None
 abbrev pub place_for : Result Request UsageFault → Option (List ℕ)
 place_for (Ok (Run program grid iterate)) = place_within (limits_of grid) grid.dir
 place_for (Ok (Build grid)) = place_within (limits_of grid) grid.dir
+place_for (Ok (Sample program grid iterate seed edges)) = place_within (limits_of grid) grid.dir
 place_for (Ok (Replay program parts vertices both)) = None
 place_for (Err fault) = None
 

@@ -172,6 +172,7 @@ IsBeforeRun status.Schedule = ⊤
 abbrev pub UnlessRun : Result Request UsageFault → Status → Type 0 → Type 0
 UnlessRun (Ok (ask.Run program grid iterate)) result fact = IsBeforeRun result → fact
 UnlessRun (Ok (ask.Build grid)) result fact = fact
+UnlessRun (Ok (ask.Sample program grid iterate seed edges)) result fact = IsBeforeRun result → fact
 UnlessRun (Ok (ask.Replay program parts vertices both)) result fact = fact
 UnlessRun (Err fault) result fact = fact
 
@@ -179,5 +180,14 @@ UnlessRun (Err fault) result fact = fact
 abbrev pub UnlessGrid : Result Request UsageFault → Type 0 → Type 0
 UnlessGrid (Ok (ask.Run program grid iterate)) fact = Unit {0}
 UnlessGrid (Ok (ask.Build grid)) fact = Unit {0}
+UnlessGrid (Ok (ask.Sample program grid iterate seed edges)) fact = Unit {0}
 UnlessGrid (Ok (ask.Replay program parts vertices both)) fact = fact
 UnlessGrid (Err fault) fact = fact
+
+-- a fact that is owed of a sample
+abbrev pub OfSample : Result Request UsageFault → Type 0 → Type 0
+OfSample (Ok (ask.Run program grid iterate)) fact = Unit {0}
+OfSample (Ok (ask.Build grid)) fact = Unit {0}
+OfSample (Ok (ask.Sample program grid iterate seed edges)) fact = fact
+OfSample (Ok (ask.Replay program parts vertices both)) fact = Unit {0}
+OfSample (Err fault) fact = Unit {0}

@@ -19,7 +19,7 @@ use Rattle.early_engine.specs.Report.{end_line, finished}
 use Rattle.early_engine.specs.declared.options.Mode.{Mode}
 use Rattle.early_engine.specs.declared.options.Show.{Show}
 use Rattle.early_engine.specs.declared.options.Show.TheVariants.{All, Brief}
-use Rattle.lumos_top.specs.Answers.{limits_of, mode_of, parts_for, replay_within, show_of}
+use Rattle.lumos_top.specs.Answers.{drawn, limits_of, mode_of, replay_within, run_parts, show_of}
 use Rattle.lumos_top.specs.Programs.{chosen}
 use Rattle.lumos_top.specs.Replays.{Streamed, after_events, events_line, final_line, streamed}
 use Rattle.lumos_top.specs.Sides.{Sides, WhereTold}
@@ -117,8 +117,10 @@ pub record RunMeans (program : ProgramWords) (grid : BuildWords) (iterate : Iter
   pub within : limits_of grid ≡ Ok limits
   pub list : Listed
   pub reads : reading limits input ≡ Ok list
+  pub parts : ℕ
+  pub fitted : run_parts program grid iterate list.vertices ≡ Some parts
   pub shown : ℕ → ℕ → List ℕ
-  pub written : sides.new_out ≡ after_told sides.old_out (report_with (chosen program).program shown (chosen program).name (show_of iterate) (mode_of iterate) list.edges list.vertices (parts_for grid list) iterate.iterations)
+  pub written : sides.new_out ≡ after_told sides.old_out (report_with (chosen program).program shown (chosen program).name (show_of iterate) (mode_of iterate) list.edges list.vertices parts iterate.iterations)
   pub walks : ShowsWalks program list iterate.iterations shown
   pub still : (t v : ℕ) → ending (chosen program).program list.edges list.vertices iterate.iterations ≡ still_in t → v < list.vertices → ShowsStill program list.edges grid.both v (shown t v)
 
@@ -133,10 +135,11 @@ pub record ReplayMeans (program : ProgramWords) (parts : ℕ) (vertices : Option
   pub walks : ShowsWalks program stream.list 1024 shown
 
 -- What a command wrote that came to its end, as asked: that of a run is made of what its files give back, and so known where
--- these are told. A build shows no values.
+-- these are told; that of a sample is of the list that is drawn. A build shows no values.
 abbrev pub Means : Result Request UsageFault → List ℕ → Sides → Type 0
 Means (Ok (ask.Run program grid iterate)) input sides = WhereTold sides.was (RunMeans program grid iterate input sides)
 Means (Ok (ask.Build grid)) input sides = ⊤
+Means (Ok (ask.Sample program grid iterate seed edges)) input sides = WhereTold sides.was (RunMeans program grid iterate (drawn grid seed edges) sides)
 Means (Ok (ask.Replay program parts vertices both)) input sides = ReplayMeans program parts vertices both input sides
 Means (Err fault) input sides = ⊤
 

@@ -4,6 +4,7 @@ ghost use Rattle.lumos_depot.specs.Causes.{Rose};
 ghost use Rattle.lumos_depot.specs.declared.depot.FileKind.{FileKind};
 ghost use Rattle.lumos_depot.specs.Steps.{RoseBy};
 ghost use Rattle.grid_build.specs.Built.{HasBuilt};
+ghost use Rattle.grid_build.specs.Chosen.{MayChoose};
 ghost use Rattle.grid_format.specs.Heads.{IsHead};
 ghost use Rattle.lumos_words.specs.Fits.{GridFits};
 ghost use Rattle.lumos_top.specs.Answers.{built_on, stated_parts};
@@ -57,7 +58,6 @@ fn grid_text(info: GridInfo) -> Line
 
 /// Why a command stops where its grid isn't built.
 pub fn build_stop(fault: BuildFault) -> Stop
-    requires { (need given : ℕ) → fault ≡ BuildFault.BudgetTooSmall need given → ⊥ }
     ensures { BuildStops fault result }
 {
     match fault {
@@ -68,28 +68,29 @@ pub fn build_stop(fault: BuildFault) -> Stop
         BuildFault::InputTooLong { limit } => {
             Stop::Refused(Refusal::Text(TextFault::InputTooLong { limit }))
         }
-        BuildFault::BudgetTooSmall { .. } => unreachable!(),
+        BuildFault::BudgetTooSmall { need, given } => {
+            Stop::Refused(Refusal::BudgetTooSmall { need, given })
+        }
         BuildFault::Read => Stop::Outside(Outside::Read),
         BuildFault::Depot => Stop::Outside(Outside::Depot),
         BuildFault::NoMemory => Stop::Outside(Outside::Memory),
     }
 }
 
-/// Attaches a directory, and builds in it the grid of a list that is read within the limits of its text, over so many
-/// parts, from 1 to 256. Where the files are told, it takes of Primary as many bytes as Secondary then has, which it copies.
+/// Attaches a directory, and builds in it the grid of a list that is read within the limits of its text, over as many parts as
+/// are chosen. Where the files are told, it takes of Primary as many bytes as Secondary then has, which it copies.
 ///
 /// Its faults are those of `build`, and `Depot` and `NoMemory` of the directory that isn't attached.
 pub fn build_files<I: Source, D: Depot>(
     alloc: Global,
     path: &str,
-    parts: u32,
+    parts: PartsChoice,
     text: TextLimits,
     input: &mut I,
     depot: &mut D,
 ) -> Result<GridInfo, BuildFault>
     requires free { D.attached depot.old ≡ None }
-    requires some { 0 < parts }
-    requires few { parts ≤ 256 }
+    requires parts { MayChoose parts }
     requires text { TextFits text }
     ensures built { HasBuilt text parts (I.left input.old) (I.left input.new) (D.holds depot.old) (D.holds depot.new) result }
     ensures memory { IsErrOf result BuildFault.NoMemory → D.stored depot.new FileKind.Meta ≡ D.stored depot.old FileKind.Meta }
@@ -113,7 +114,7 @@ pub fn build_files<I: Source, D: Depot>(
         }
     }
     let options = BuildOptions {
-        parts: PartsChoice::Stated(parts),
+        parts,
         limits: text,
         budget: BUDGET,
     };
@@ -142,7 +143,8 @@ pub fn build_grid<I: Source, D: Depot, O: Sink>(
     ensures attached { IsAttached (Some grid.now.dir) (D.attached depot.new) (result ≡ Err (Stop.Outside Outside.Memory)) (result ≡ Err (Stop.Outside Outside.Depot)) }
     ensures causes { HasCauses I.faults D.faults O.faults input.old input.new depot.old depot.new out.old out.new result }
 {
-    let info = match build_files(alloc, grid.dir.text(), few_parts(grid), text, input, depot) {
+    let parts = PartsChoice::Stated(few_parts(grid));
+    let info = match build_files(alloc, grid.dir.text(), parts, text, input, depot) {
         Ok(info) => info,
         Err(fault) => return Err(build_stop(fault)),
     };

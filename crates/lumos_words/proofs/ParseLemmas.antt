@@ -21,7 +21,7 @@ use Rattle.lumos_words.specs.Words.{AreTexts, HasOwnName, Items, understood}
 use Rattle.lumos_words.specs.Matches.{SaysAll, known_of, table_of, texts_of}
 use Rattle.lumos_words.specs.Matches.{app_for, option_rule, program_rule, with_option}
 use Rattle.lumos_words.specs.declared.table.CommandWord.{CommandWord}
-use Rattle.lumos_words.specs.declared.table.CommandWord.TheVariants.{Run, Build, Replay}
+use Rattle.lumos_words.specs.declared.table.CommandWord.TheVariants.{Run, Build, Replay, Sample}
 use Rattle.lumos_words.specs.declared.table.OptionRow.{OptionRow}
 use Rattle.lumos_words.proofs.TableLemmas.{simple_for}
 use Rattle.lumos_words.proofs.Whole.{Taken, flag_in, said_in, taken}
@@ -51,7 +51,7 @@ rows_app word rows i = app_for (filter (has_option word) (table_of (take i rows)
 
 -- what an index behind the end stands for
 abbrev pub no_row : OptionRow
-no_row = record { name = record { ref_ptr = (0, 0); now = [] }; is_flag = false; run = false; build = false; replay = false }
+no_row = record { name = record { ref_ptr = (0, 0); now = [] }; is_flag = false; run = false; build = false; replay = false; sample = false }
 
 pub row_step : (word : CommandWord) (rows : List OptionRow) (i : ℕ) → i < length rows → with_option word (rows_app word rows i) (known_of (slice_index_or rows i no_row)) ≡ rows_app word rows (i + 1)
 row_step word rows i inside =
@@ -103,3 +103,4 @@ pub own_name : (word : CommandWord) → HasOwnName (options_of word)
 own_name Run = refl
 own_name Build = refl
 own_name Replay = refl
+own_name Sample = refl

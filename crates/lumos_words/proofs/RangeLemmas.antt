@@ -1,12 +1,12 @@
--- A run that words ask for has at most a million iterations.
-use Rattle.std.proofs.Common.{◌≡◌, ◌≤◌, ℕ, Bool, true, false, nat_le, Option, Some, None, Result, Ok, Err, codes, refl, subst, arith}
+-- A run or a sample that words ask for has at most a million iterations.
+use Rattle.std.proofs.Common.{◌≡◌, ◌≤◌, ℕ, Bool, true, false, nat_le, Option, Some, None, Result, Ok, Err, codes, refl, ap, subst, arith}
 use Rattle.std.specs.Prelude.{⊤, ◌&&◌, List, [], ◌∷◌, IfSome, unwrap_or, if◌then◌else◌}
 use Rattle.std.proofs.lemmas.Bool.{leb-true}
 use Rattle.lumos_words.specs.Faults.{fault_for, name_of}
 use Rattle.lumos_words.specs.Numbers.{number_of}
 use Rattle.lumos_words.specs.Options.{Text, command_of, has_program, options_of}
 use Rattle.lumos_words.specs.Requests.{asked, request, request_behind, request_for, request_said, request_with}
-use Rattle.lumos_words.specs.Settings.{Say, directory, greatest, if_good, is_set, non_empty, number_in, number_or, number_said, plan_of, ranged, sizes_of, task_of, ways_of}
+use Rattle.lumos_words.specs.Settings.{Say, directory, draws_of, greatest, if_good, is_set, least_vertices, non_empty, number_in, number_or, number_said, plan_of, ranged, sizes_of, task_of, ways_of}
 use Rattle.lumos_words.specs.Words.{Items, said, understood}
 use Rattle.lumos_words.specs.declared.faults.OptionName.{OptionName}
 use Rattle.lumos_words.specs.declared.faults.OptionName.TheVariants as option
@@ -14,6 +14,7 @@ use Rattle.lumos_words.specs.declared.faults.UsageFault.{UsageFault}
 use Rattle.lumos_words.specs.declared.faults.UsageWhat.TheVariants as what
 use Rattle.lumos_words.specs.declared.request.Request.{Request}
 use Rattle.lumos_words.specs.declared.request.Request.TheVariants as requested
+use Rattle.lumos_words.specs.declared.settings.Draws.{Draws}
 use Rattle.lumos_words.specs.declared.settings.Plan.{Plan}
 use Rattle.lumos_words.specs.declared.settings.Sizes.{Sizes}
 use Rattle.lumos_words.specs.declared.settings.Task.{Task}
@@ -21,11 +22,12 @@ use Rattle.lumos_words.specs.declared.settings.Task.TheVariants as task
 use Rattle.lumos_words.specs.declared.settings.Ways.{Ways}
 use Rattle.lumos_words.specs.declared.table.CommandWord.{CommandWord}
 
--- a run has at most a million iterations
+-- a run or a sample has at most a million iterations
 abbrev pub IsFew : Request → Type 0
 IsFew (requested.Run program grid iterate) = iterate.iterations ≤ 1000000
 IsFew (requested.Build grid) = ⊤
 IsFew (requested.Replay program parts vertices both) = ⊤
+IsFew (requested.Sample program grid iterate seed edges) = iterate.iterations ≤ 1000000
 
 -- a good answer, and what follows it
 record IsGood {A B : Type 0} (r : Result A UsageFault) (next : A → Result B UsageFault) (x : B) : Type 0 where
@@ -67,16 +69,19 @@ number_low name low high absent say n few is =
     let same : unwrap_or h.first absent ≡ n = cc in
     subst (λ k. k ≤ high) same (or_low h.first absent high few (said_low name low high (say (name_of name)) h.first h.is))
 
-sizes_few : (say : Say) (sizes : Sizes) → sizes_of say ≡ Ok sizes → sizes.iterations ≤ 1000000
-sizes_few say sizes is =
+abbrev iterations_in : Result Sizes UsageFault → ℕ
+iterations_in (Ok sizes) = sizes.iterations
+iterations_in (Err why) = 0
+
+sizes_few : (t : Task) (say : Say) (sizes : Sizes) → sizes_of t say ≡ Ok sizes → sizes.iterations ≤ 1000000
+sizes_few t say sizes is =
     let parts = good (number_in option.Parts 1 greatest say) _ _ is in
     let iterations = good (number_or option.Iterations 1 1000000 10 say) _ _ parts.rest in
     let budget = good (number_or option.Budget 1 1099511627776 1073741824 say) _ _ iterations.rest in
-    let vertices = good (number_in option.Vertices 0 greatest say) _ _ budget.rest in
+    let vertices = good (number_in option.Vertices (least_vertices t) greatest say) _ _ budget.rest in
     let edges = good (number_or option.MaxEdges 0 2147483648 2147483648 say) _ _ vertices.rest in
     let bytes = good (number_or option.MaxBytes 0 1099511627776 1099511627776 say) _ _ edges.rest in
-    let rest = bytes.rest in
-    let same : iterations.first ≡ sizes.iterations = cc in
+    let same : iterations.first ≡ sizes.iterations = ap iterations_in bytes.rest in
     let few = number_low option.Iterations 1 1000000 10 say iterations.first (omega arith) iterations.is in
     omega arith
 
@@ -84,16 +89,18 @@ plan_few : (command : CommandWord) (say : Say) (plan : Plan) → plan_of command
 plan_few command say plan is =
     let made = good (task_of command (say (codes "PROGRAM"))) _ _ is in
     let dir = good (non_empty (directory (say (codes "dir")))) _ _ made.rest in
-    let sizes = good (sizes_of say) _ _ dir.rest in
-    let ways = good (ways_of say) _ _ sizes.rest in
-    let rest = ways.rest in
+    let sizes = good (sizes_of made.first say) _ _ dir.rest in
+    let ways = good (ways_of made.first say) _ _ sizes.rest in
+    let draws = good (draws_of say) _ _ ways.rest in
+    let rest = draws.rest in
     let same : sizes.first ≡ plan.sizes = cc in
-    subst (λ (s : Sizes). s.iterations ≤ 1000000) same (sizes_few say sizes.first sizes.is)
+    subst (λ (s : Sizes). s.iterations ≤ 1000000) same (sizes_few made.first say sizes.first sizes.is)
 
-with_few : (t : Task) (sizes : Sizes) (ways : Ways) (dir : Text) (both : Bool) → sizes.iterations ≤ 1000000 → IsFew (request_with t sizes ways dir both)
-with_few (task.Run program) sizes ways dir both few = few
-with_few task.Build sizes ways dir both few = tt
-with_few (task.Replay program) sizes ways dir both few = tt
+with_few : (t : Task) (sizes : Sizes) (ways : Ways) (draws : Draws) (dir : Text) (both : Bool) → sizes.iterations ≤ 1000000 → IsFew (request_with t sizes ways draws dir both)
+with_few (task.Run program) sizes ways draws dir both few = few
+with_few task.Build sizes ways draws dir both few = tt
+with_few (task.Replay program) sizes ways draws dir both few = tt
+with_few (task.Sample program) sizes ways draws dir both few = few
 
 asked_few : (command : CommandWord) (say : Say) (r : Request) → asked command say ≡ Ok r → IsFew r
 asked_few command say r is =
@@ -102,7 +109,7 @@ asked_few command say r is =
     let dir = directory (say (codes "dir")) in
     let both = is_set (say (codes "both")) in
     let same : request_for plan.first dir both ≡ r = cc in
-    subst IsFew same (with_few plan.first.task plan.first.sizes plan.first.ways dir both (plan_few command say plan.first plan.is))
+    subst IsFew same (with_few plan.first.task plan.first.sizes plan.first.ways plan.first.draws dir both (plan_few command say plan.first plan.is))
 
 said_few : (command : CommandWord) (items : Items) (r : Request) → request_said command items ≡ Ok r → IsFew r
 said_few command None r is = absurd (cc)
@@ -112,7 +119,7 @@ behind_few : (command : Option CommandWord) (rest : List Text) (r : Request) →
 behind_few None rest r is = absurd (cc)
 behind_few (Some command) rest r is = said_few command (understood (options_of command) (has_program command) rest) r is
 
--- a run that words ask for has at most a million iterations
+-- a run or a sample that words ask for has at most a million iterations
 pub request_few : (words : List Text) (r : Request) → request words ≡ Ok r → IsFew r
 request_few [] r is = absurd (cc)
 request_few (word ∷ rest) r is = behind_few (command_of word) rest r is

@@ -1,5 +1,5 @@
 -- The numbers of a request lie in the ranges of their options.
-use Rattle.std.specs.Prelude.{◌≡◌, ◌≤◌, ◌<◌, ⊤, ℕ, true, List, length, IfSome}
+use Rattle.std.specs.Prelude.{◌≡◌, ◌≤◌, ◌<◌, ⊤, ℕ, true, List, length, IfSome, unwrap_or}
 use Rattle.std.specs.List.{All}
 use Rattle.lumos_words.specs.Numbers.{are_distinct}
 use Rattle.lumos_words.specs.declared.request.BuildWords.{BuildWords}
@@ -9,6 +9,7 @@ use Rattle.lumos_words.specs.declared.request.ProgramWords.TheVariants as words
 use Rattle.lumos_words.specs.declared.request.Request.{Request}
 use Rattle.lumos_words.specs.declared.request.Request.TheVariants as requested
 use Rattle.lumos_words.specs.declared.request.SeedWord.{SeedWord}
+use Rattle.lumos_words.specs.Settings.{least_vertices}
 use Rattle.lumos_words.specs.declared.settings.Sizes.{Sizes}
 use Rattle.lumos_words.specs.declared.settings.Ways.{Ways}
 use Rattle.lumos_words.specs.declared.settings.Plan.{Plan}
@@ -49,10 +50,16 @@ pub record IterFits (iterate : IterWords) : Type 0 where
   pub iterations : (1 ≤ iterate.iterations) × (iterate.iterations ≤ 1000000)
   pub budget : BudgetFits iterate.budget
 
+-- the number of a sample's vertices is known, and isn't 0
+pub record SampleFits (grid : BuildWords) (drawn : ℕ) : Type 0 where
+  pub vertices : 1 ≤ unwrap_or grid.vertices 0
+  pub edges : drawn ≤ 2147483648
+
 abbrev pub RequestFits : Request → Type 0
 RequestFits (requested.Run program grid iterate) = ProgramFits program × (GridFits grid × IterFits iterate)
 RequestFits (requested.Build grid) = GridFits grid
 RequestFits (requested.Replay program parts vertices both) = ProgramFits program × (1 ≤ parts)
+RequestFits (requested.Sample program grid iterate seed edges) = ProgramFits program × (GridFits grid × (IterFits iterate × SampleFits grid edges))
 
 -- the same of what is read option by option
 pub record SizesFit (sizes : Sizes) : Type 0 where
@@ -70,4 +77,6 @@ pub record WaysFit (ways : Ways) : Type 0 where
 
 pub record PlanFits (plan : Plan) : Type 0 where
   pub sizes : SizesFit plan.sizes
+  pub vertices : IfSome plan.sizes.vertices (λ n. least_vertices plan.task ≤ n)
   pub ways : WaysFit plan.ways
+  pub edges : plan.draws.edges ≤ 2147483648

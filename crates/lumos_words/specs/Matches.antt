@@ -14,7 +14,7 @@ use Rattle.lumos_words.specs.declared.table.OptionRow.{OptionRow}
 
 -- a row of the code's table
 abbrev pub known_of : OptionRow → Known
-known_of row = record { name = row.name.now; is_flag = row.is_flag; run = row.run; build = row.build; replay = row.replay }
+known_of row = record { name = row.name.now; is_flag = row.is_flag; run = row.run; build = row.build; replay = row.replay; sample = row.sample }
 
 abbrev pub table_of : List OptionRow → List Known
 table_of rows = map known_of rows

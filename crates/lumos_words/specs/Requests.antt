@@ -14,6 +14,7 @@ use Rattle.lumos_words.specs.declared.request.ProgramWords.{ProgramWords}
 use Rattle.lumos_words.specs.declared.request.ProgramWords.TheVariants as words
 use Rattle.lumos_words.specs.declared.request.Request.{Request}
 use Rattle.lumos_words.specs.declared.request.Request.TheVariants as requested
+use Rattle.lumos_words.specs.declared.settings.Draws.{Draws}
 use Rattle.lumos_words.specs.declared.settings.Plan.{Plan}
 use Rattle.lumos_words.specs.declared.settings.ProgramName.{ProgramName}
 use Rattle.lumos_words.specs.declared.settings.ProgramName.TheVariants as program
@@ -48,13 +49,19 @@ iter_words sizes ways = record { iterations = sizes.iterations; budget = sizes.b
 abbrev pub with_parts : ℕ → Sizes → Sizes
 with_parts absent sizes = record sizes { parts = Some (unwrap_or sizes.parts absent) }
 
-abbrev pub request_with : Task → Sizes → Ways → Text → Bool → Request
-request_with (task.Run program) sizes ways dir both = requested.Run (program_words program ways) (build_words sizes dir both) (iter_words sizes ways)
-request_with task.Build sizes ways dir both = requested.Build (build_words (with_parts 16 sizes) dir both)
-request_with (task.Replay program) sizes ways dir both = requested.Replay (program_words program ways) (unwrap_or sizes.parts 2) sizes.vertices both
+-- so many vertices where none are stated
+abbrev pub with_vertices : ℕ → Sizes → Sizes
+with_vertices absent sizes = record sizes { vertices = Some (unwrap_or sizes.vertices absent) }
+
+abbrev pub request_with : Task → Sizes → Ways → Draws → Text → Bool → Request
+request_with (task.Run program) sizes ways draws dir both = requested.Run (program_words program ways) (build_words sizes dir both) (iter_words sizes ways)
+request_with task.Build sizes ways draws dir both = requested.Build (build_words (with_parts 16 sizes) dir both)
+request_with (task.Replay program) sizes ways draws dir both = requested.Replay (program_words program ways) (unwrap_or sizes.parts 2) sizes.vertices both
+request_with (task.Sample program) sizes ways draws dir both =
+    requested.Sample (program_words program ways) (build_words (with_vertices 1000 sizes) dir both) (iter_words sizes ways) draws.seed draws.edges
 
 abbrev pub request_for : Plan → Text → Bool → Request
-request_for plan dir both = request_with plan.task plan.sizes plan.ways dir both
+request_for plan dir both = request_with plan.task plan.sizes plan.ways plan.draws dir both
 
 -- what a command is asked for, by the texts of its options
 abbrev pub asked : CommandWord → Say → Result Request UsageFault

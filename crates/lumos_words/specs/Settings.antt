@@ -18,6 +18,7 @@ use Rattle.lumos_words.specs.declared.settings.Task.{Task}
 use Rattle.lumos_words.specs.declared.settings.Task.TheVariants as task
 use Rattle.lumos_words.specs.declared.settings.Sizes.{Sizes}
 use Rattle.lumos_words.specs.declared.settings.Ways.{Ways}
+use Rattle.lumos_words.specs.declared.settings.Draws.{Draws}
 use Rattle.lumos_words.specs.declared.settings.Plan.{Plan}
 
 -- the text that an option has, or the program's name, by its name; a flag that stands has the text `true`
@@ -47,6 +48,21 @@ abbrev pub task_of : CommandWord → Option Text → Result Task UsageFault
 task_of command.Run word = if_good (program_of word) (λ program. Ok (task.Run program))
 task_of command.Build word = Ok task.Build
 task_of command.Replay word = if_good (program_of word) (λ program. Ok (task.Replay program))
+task_of command.Sample word = if_good (program_of word) (λ program. Ok (task.Sample program))
+
+-- the fewest vertices that may be stated: a sample's edges end at vertices, so it has one
+abbrev pub least_vertices : Task → ℕ
+least_vertices (task.Run program) = 0
+least_vertices task.Build = 0
+least_vertices (task.Replay program) = 0
+least_vertices (task.Sample program) = 1
+
+-- the values are left out, where it isn't said whether they are shown
+abbrev pub is_brief : Task → Bool
+is_brief (task.Run program) = false
+is_brief task.Build = false
+is_brief (task.Replay program) = false
+is_brief (task.Sample program) = true
 
 -- ---- one option
 
@@ -77,14 +93,14 @@ number_in name low high say = number_said name low high (say (name_of name))
 abbrev pub number_or : OptionName → ℕ → ℕ → ℕ → Say → Result ℕ UsageFault
 number_or name low high absent say = if_good (number_in name low high say) (λ n. Ok (unwrap_or n absent))
 
--- whether the second of two words is chosen; the first is where none is given
-abbrev pub second_said : Text → Text → UsageWhat → Option Text → Result Bool UsageFault
-second_said first second bad None = Ok false
-second_said first second bad (Some text) = if bytes_eq text first then Ok false
+-- whether the second of two words is chosen, or what stands where neither is given
+abbrev pub second_said : Text → Text → UsageWhat → Bool → Option Text → Result Bool UsageFault
+second_said first second bad absent None = Ok absent
+second_said first second bad absent (Some text) = if bytes_eq text first then Ok false
     else (if bytes_eq text second then Ok true else Err (fault bad))
 
-abbrev pub is_second : Text → Text → Text → UsageWhat → Say → Result Bool UsageFault
-is_second name first second bad say = second_said first second bad (say name)
+abbrev pub is_second : Text → Text → Text → UsageWhat → Bool → Say → Result Bool UsageFault
+is_second name first second bad absent say = second_said first second bad absent (say name)
 
 abbrev pub seeds_or_fault : Option (List SeedWord) → Result (List SeedWord) UsageFault
 seeds_or_fault (Some seeds) = Ok seeds
@@ -99,12 +115,12 @@ seeds_said (Some text) = seeds_or_fault (seeds_of text)
 abbrev pub greatest : ℕ
 greatest = 18446744073709551615
 
-abbrev pub sizes_of : Say → Result Sizes UsageFault
-sizes_of say =
+abbrev pub sizes_of : Task → Say → Result Sizes UsageFault
+sizes_of task say =
     if_good (number_in option.Parts 1 greatest say) (λ parts.
     if_good (number_or option.Iterations 1 1000000 10 say) (λ iterations.
     if_good (number_or option.Budget 1 1099511627776 1073741824 say) (λ budget.
-    if_good (number_in option.Vertices 0 greatest say) (λ vertices.
+    if_good (number_in option.Vertices (least_vertices task) greatest say) (λ vertices.
     if_good (number_or option.MaxEdges 0 2147483648 2147483648 say) (λ max_edges.
     if_good (number_or option.MaxBytes 0 1099511627776 1099511627776 say) (λ max_bytes.
     Ok (record {
@@ -116,24 +132,31 @@ sizes_of say =
       max_bytes = max_bytes;
     })))))))
 
-abbrev pub ways_of : Say → Result Ways UsageFault
-ways_of say =
-    if_good (is_second (codes "mode") (codes "fed") (codes "plain") what.BadMode say) (λ plain.
-    if_good (is_second (codes "show") (codes "all") (codes "brief") what.BadShow say) (λ brief.
+abbrev pub ways_of : Task → Say → Result Ways UsageFault
+ways_of task say =
+    if_good (is_second (codes "mode") (codes "fed") (codes "plain") what.BadMode false say) (λ plain.
+    if_good (is_second (codes "show") (codes "all") (codes "brief") what.BadShow (is_brief task) say) (λ brief.
     if_good (number_or option.Unit 1 9223372036854775808 1000000000 say) (λ unit.
     if_good (number_or option.Share 0 1000 850 say) (λ share.
     if_good (number_or option.From 0 268435455 0 say) (λ from.
     if_good (seeds_said (say (codes "seeds"))) (λ seeds.
     Ok (record { plain = plain; brief = brief; unit = unit; share = share; from = from; seeds = seeds })))))))
 
+abbrev pub draws_of : Say → Result Draws UsageFault
+draws_of say =
+    if_good (number_or option.Seed 0 greatest 1 say) (λ seed.
+    if_good (number_or option.Edges 0 2147483648 1000 say) (λ edges.
+    Ok (record { seed = seed; edges = edges })))
+
 -- the program, then option by option
 abbrev pub plan_of : CommandWord → Say → Result Plan UsageFault
 plan_of command say =
     if_good (task_of command (say (codes "PROGRAM"))) (λ task.
     if_good (non_empty (directory (say (codes "dir")))) (λ dir.
-    if_good (sizes_of say) (λ sizes.
-    if_good (ways_of say) (λ ways.
-    Ok (record { task = task; sizes = sizes; ways = ways })))))
+    if_good (sizes_of task say) (λ sizes.
+    if_good (ways_of task say) (λ ways.
+    if_good (draws_of say) (λ draws.
+    Ok (record { task = task; sizes = sizes; ways = ways; draws = draws }))))))
 
 -- whether an answer is good, for a step that keeps none
 abbrev pub result_done : {A : Type 0} → Result A UsageFault → Result (Unit {0}) UsageFault

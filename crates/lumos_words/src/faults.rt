@@ -51,6 +51,10 @@ pub enum OptionName {
     Share,
     /// `--from`
     From,
+    /// `--seed`
+    Seed,
+    /// `--edges`
+    Edges,
 }
 
 /// What is wrong with the words, and with which option.
@@ -102,5 +106,7 @@ pub(crate) fn name_of(option: OptionName) -> &'static str
         OptionName::Unit => "unit",
         OptionName::Share => "share",
         OptionName::From => "from",
+        OptionName::Seed => "seed",
+        OptionName::Edges => "edges",
     }
 }

@@ -1,8 +1,8 @@
 // The request that the words make.
-ghost use Rattle.std.specs.Prelude.{◌≡◌, ◌<◌, ◌≤◌, IfOk, length};
+ghost use Rattle.std.specs.Prelude.{◌≡◌, ◌<◌, ◌≤◌, IfOk, IfSome, length, unwrap_or};
 ghost use Rattle.lumos_words.specs.Fits.{GridFits, IterFits, PlanFits, ProgramFits, RequestFits, SizesFit, WaysFit};
 ghost use Rattle.lumos_words.specs.Matches.{text_in, texts_of};
-ghost use Rattle.lumos_words.specs.Requests.{IsAnswer, asked, build_words, iter_words, program_words, request, request_for, with_parts};
+ghost use Rattle.lumos_words.specs.Requests.{IsAnswer, asked, build_words, iter_words, program_words, request, request_for, with_parts, with_vertices};
 
 use crate::faults::{UsageWhat, WordsFault, fault};
 use crate::parse::parse;
@@ -78,13 +78,33 @@ fn with_parts(absent: u64, sizes: Sizes) -> Sizes
     }
 }
 
+// So many vertices where none are stated.
+fn with_vertices(absent: u64, sizes: Sizes) -> Sizes
+    requires sizes { SizesFit sizes }
+    requires stated { IfSome sizes.vertices (λ n. 1 ≤ n) }
+    requires absent { 1 ≤ absent }
+    ensures value { result ≡ with_vertices absent sizes }
+    ensures fits { SizesFit result }
+    ensures some { 1 ≤ unwrap_or result.vertices 0 }
+{
+    Sizes {
+        vertices: Some(sizes.vertices.unwrap_or(absent)),
+        ..sizes
+    }
+}
+
 fn request_for(alloc: Global, plan: Plan, dir: &str, both: bool) -> Result<Request, AllocError>
     requires plan { PlanFits plan }
     requires dir { 0 < length dir.now }
     ensures value { IfOk result (λ r. r ≡ request_for plan dir.now both) }
     ensures fits { IfOk result RequestFits }
 {
-    let Plan { task, sizes, ways } = plan;
+    let Plan {
+        task,
+        sizes,
+        ways,
+        draws,
+    } = plan;
     match task {
         Task::Run(program) => Ok(Request::Run {
             iterate: iter_words(sizes, &ways),
@@ -99,6 +119,13 @@ fn request_for(alloc: Global, plan: Plan, dir: &str, both: bool) -> Result<Reque
             parts: sizes.parts.unwrap_or(2),
             vertices: sizes.vertices,
             both,
+        }),
+        Task::Sample(program) => Ok(Request::Sample {
+            iterate: iter_words(sizes, &ways),
+            program: program_words(program, ways),
+            grid: build_words(alloc, with_vertices(1000, sizes), dir, both)?,
+            seed: draws.seed,
+            edges: draws.edges,
         }),
     }
 }
@@ -120,11 +147,11 @@ fn asked(alloc: Global, command: CommandWord, matches: &ArgMatches) -> Result<Re
     }
 }
 
-/// What the words ask for; they don't hold the program's own name. The first names the command: `run`, `build` or `replay`.
-/// Behind it stand, in any order and each at most once, the command's options, `--name value` or `--name=value`, its flags,
-/// and the name of a program, where the command has one. A value that is a word of its own doesn't begin with `-`, unless it
-/// is `-` alone; one behind the first `=` may be any text. Behind a word `--` every word is a name. Which values an option has,
-/// and what stands where it isn't given, [`Request`] and its parts say. An option that the program doesn't use is judged as
+/// What the words ask for; they don't hold the program's own name. The first names the command: `run`, `build`, `replay` or
+/// `sample`. Behind it stand, in any order and each at most once, the command's options, `--name value` or `--name=value`, its
+/// flags, and the name of a program, where the command has one. A value that is a word of its own doesn't begin with `-`, unless
+/// it is `-` alone; one behind the first `=` may be any text. Behind a word `--` every word is a name. Which values an option
+/// has, and what stands where it isn't given, [`Request`] and its parts say. An option that the program doesn't use is judged as
 /// any other. These rules are our own.
 ///
 /// `Usage` tells the first fault, in the order of [`UsageWhat`](crate::UsageWhat). `NoMemory` is want of memory, and says

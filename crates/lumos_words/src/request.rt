@@ -118,16 +118,17 @@ pub enum ProgramWords {
 pub struct BuildWords {
     /// The directory of the grid's files, `--dir`.
     pub dir: PathText,
-    /// Into how many parts the vertices are cut, `--parts`: 1 or more. Where it isn't given, `build` has 16, and `run`
-    /// has `None`.
+    /// Into how many parts the vertices are cut, `--parts`: 1 or more. Where it isn't given, `build` has 16, and `run` and
+    /// `sample` have `None`.
     pub parts: Option<u64>,
     /// How many bytes the records of values and sums may take in memory, `--budget`: 1 to 1099511627776.
     pub budget: u64,
-    /// How many vertices the list has, `--vertices`, or `None` where it isn't given.
+    /// How many vertices the list has, `--vertices`. Where it isn't given, `sample` has 1000, and the others have `None`. A
+    /// sample has 1 at least.
     pub vertices: Option<u64>,
-    /// How many edges are accepted, `--max-edges`: 0 to 2147483648.
+    /// How many edges are accepted, `--max-edges`: 0 to 2147483648. A sample has the most.
     pub max_edges: u64,
-    /// How many bytes of the list are accepted, `--max-bytes`: 0 to 1099511627776.
+    /// How many bytes of the list are accepted, `--max-bytes`: 0 to 1099511627776. A sample has the most.
     pub max_bytes: u64,
     /// Whether a line is an edge in both directions, `--both`.
     pub both: bool,
@@ -142,7 +143,7 @@ pub struct IterWords {
     pub budget: u64,
     /// Whether every iteration reads all blocks, `--mode plain`.
     pub plain: bool,
-    /// Whether the values of vertices are left out of the report, `--show brief`.
+    /// Whether the values of vertices are left out of the report, `--show brief`. Where it isn't given, a sample leaves them out.
     pub brief: bool,
 }
 
@@ -173,5 +174,18 @@ pub enum Request {
         vertices: Option<u64>,
         /// Whether a line is an edge in both directions, `--both`.
         both: bool,
+    },
+    /// `sample`: build a grid of a list that is drawn by a rule, and iterate a program over it.
+    Sample {
+        /// The program.
+        program: ProgramWords,
+        /// How the grid is built. The number of vertices is that of the drawn list too.
+        grid: BuildWords,
+        /// How the program iterates.
+        iterate: IterWords,
+        /// With which number the draws begin, `--seed`: any, and 1 where it isn't given.
+        seed: u64,
+        /// How many lines are drawn, `--edges`: 0 to 2147483648, and 1000 where it isn't given.
+        edges: u64,
     },
 }

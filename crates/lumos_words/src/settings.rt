@@ -2,7 +2,7 @@
 ghost use Rattle.std.specs.Prelude.{◌≡◌, ◌<◌, ◌≤◌, IfOk, IfSome, codes, length, option_map};
 ghost use Rattle.lumos_words.specs.Fits.{PlanFits, SeedsFit, SizesFit, WaysFit};
 ghost use Rattle.lumos_words.specs.Matches.{text_in};
-ghost use Rattle.lumos_words.specs.Settings.{directory, is_second, is_set, non_empty, number_in, number_or, plan_of, program_named, program_of, result_done, seeds_said, sizes_of, task_of, ways_of};
+ghost use Rattle.lumos_words.specs.Settings.{directory, draws_of, is_brief, is_second, is_set, least_vertices, non_empty, number_in, number_or, plan_of, program_named, program_of, result_done, seeds_said, sizes_of, task_of, ways_of};
 
 use crate::faults::{OptionName, UsageFault, UsageWhat, fault, fault_for, name_of};
 use crate::numbers::{number_of, seeds_of};
@@ -26,6 +26,29 @@ pub(crate) enum Task {
     Run(ProgramName),
     Build,
     Replay(ProgramName),
+    Sample(ProgramName),
+}
+
+impl Task {
+    // The fewest vertices that may be stated: a sample's edges end at vertices, so it has one.
+    fn least_vertices(self) -> u64
+        ensures { result ≡ least_vertices self }
+    {
+        match self {
+            Task::Sample(_) => 1,
+            Task::Run(_) | Task::Build | Task::Replay(_) => 0,
+        }
+    }
+
+    // Whether values are left out, where it isn't said whether they are shown.
+    fn is_brief(self) -> bool
+        ensures { result ≡ is_brief self }
+    {
+        match self {
+            Task::Sample(_) => true,
+            Task::Run(_) | Task::Build | Task::Replay(_) => false,
+        }
+    }
 }
 
 // How much: of parts, iterations, memory, vertices, edges and bytes.
@@ -50,12 +73,20 @@ pub(crate) struct Ways {
     pub seeds: SeedWords,
 }
 
+// From where a sample is drawn, and how much.
+#[derive(Clone, Copy, Drop)]
+pub(crate) struct Draws {
+    pub seed: u64,
+    pub edges: u64,
+}
+
 // What is to be done.
 #[derive(Drop)]
 pub(crate) struct Plan {
     pub task: Task,
     pub sizes: Sizes,
     pub ways: Ways,
+    pub draws: Draws,
 }
 
 fn program_named(word: &str) -> Result<ProgramName, UsageFault>
@@ -89,6 +120,7 @@ fn task_of(command: CommandWord, word: Option<&str>) -> Result<Task, UsageFault>
         CommandWord::Run => Ok(Task::Run(program_of(word)?)),
         CommandWord::Build => Ok(Task::Build),
         CommandWord::Replay => Ok(Task::Replay(program_of(word)?)),
+        CommandWord::Sample => Ok(Task::Sample(program_of(word)?)),
     }
 }
 
@@ -159,18 +191,19 @@ fn number_or(
     Ok(number.unwrap_or(absent))
 }
 
-// Whether the second of two words is chosen; the first is where none is given.
+// Whether the second of two words is chosen, or what stands where neither is given.
 fn is_second(
     matches: &ArgMatches,
     name: &str,
     first: &str,
     second: &str,
     bad: UsageWhat,
+    absent: bool,
 ) -> Result<bool, UsageFault>
-    ensures { result ≡ is_second name.now first.now second.now bad (text_in matches.now) }
+    ensures { result ≡ is_second name.now first.now second.now bad absent (text_in matches.now) }
 {
     match matches.get_str(name) {
-        None => Ok(false),
+        None => Ok(absent),
         Some(text) => if text == first {
             Ok(false)
         } else if text == second {
@@ -195,14 +228,20 @@ fn seeds_in(text: Option<&str>) -> Result<SeedWords, UsageFault>
     }
 }
 
-fn sizes_of(matches: &ArgMatches) -> Result<Sizes, UsageFault>
-    ensures value { result ≡ sizes_of (text_in matches.now) }
+fn sizes_of(task: Task, matches: &ArgMatches) -> Result<Sizes, UsageFault>
+    ensures value { result ≡ sizes_of task (text_in matches.now) }
     ensures fits { IfOk result SizesFit }
+    ensures vertices { IfOk result (λ sizes. IfSome sizes.vertices (λ n. least_vertices task ≤ n)) }
 {
     let parts = number_in(matches, OptionName::Parts, 1, u64::MAX)?;
     let iterations = number_or(matches, OptionName::Iterations, 1, 1000000, 10)?;
     let budget = number_or(matches, OptionName::Budget, 1, 1099511627776, 1073741824)?;
-    let vertices = number_in(matches, OptionName::Vertices, 0, u64::MAX)?;
+    let vertices = number_in(
+        matches,
+        OptionName::Vertices,
+        task.least_vertices(),
+        u64::MAX,
+    )?;
     let max_edges = number_or(matches, OptionName::MaxEdges, 0, 2147483648, 2147483648)?;
     let max_bytes = number_or(
         matches,
@@ -221,12 +260,19 @@ fn sizes_of(matches: &ArgMatches) -> Result<Sizes, UsageFault>
     })
 }
 
-fn ways_of(matches: &ArgMatches) -> Result<Ways, UsageFault>
-    ensures value { result ≡ ways_of (text_in matches.now) }
+fn ways_of(task: Task, matches: &ArgMatches) -> Result<Ways, UsageFault>
+    ensures value { result ≡ ways_of task (text_in matches.now) }
     ensures fits { IfOk result WaysFit }
 {
-    let plain = is_second(matches, "mode", "fed", "plain", UsageWhat::BadMode)?;
-    let brief = is_second(matches, "show", "all", "brief", UsageWhat::BadShow)?;
+    let plain = is_second(matches, "mode", "fed", "plain", UsageWhat::BadMode, false)?;
+    let brief = is_second(
+        matches,
+        "show",
+        "all",
+        "brief",
+        UsageWhat::BadShow,
+        task.is_brief(),
+    )?;
     let unit = number_or(
         matches,
         OptionName::Unit,
@@ -247,6 +293,15 @@ fn ways_of(matches: &ArgMatches) -> Result<Ways, UsageFault>
     })
 }
 
+fn draws_of(matches: &ArgMatches) -> Result<Draws, UsageFault>
+    ensures value { result ≡ draws_of (text_in matches.now) }
+    ensures fits { IfOk result (λ draws. draws.edges ≤ 2147483648) }
+{
+    let seed = number_or(matches, OptionName::Seed, 0, u64::MAX, 1)?;
+    let edges = number_or(matches, OptionName::Edges, 0, 2147483648, 1000)?;
+    Ok(Draws { seed, edges })
+}
+
 // What is to be done, or the first fault: the program's, then option by option.
 pub(crate) fn plan_of(command: CommandWord, matches: &ArgMatches) -> Result<Plan, UsageFault>
     ensures value { result ≡ plan_of command (text_in matches.now) }
@@ -255,7 +310,13 @@ pub(crate) fn plan_of(command: CommandWord, matches: &ArgMatches) -> Result<Plan
 {
     let task = task_of(command, matches.get_str("PROGRAM"))?;
     test_directory(matches.get_str("dir"))?;
-    let sizes = sizes_of(matches)?;
-    let ways = ways_of(matches)?;
-    Ok(Plan { task, sizes, ways })
+    let sizes = sizes_of(task, matches)?;
+    let ways = ways_of(task, matches)?;
+    let draws = draws_of(matches)?;
+    Ok(Plan {
+        task,
+        sizes,
+        ways,
+        draws,
+    })
 }

@@ -9,6 +9,7 @@ pub(crate) enum CommandWord {
     Run,
     Build,
     Replay,
+    Sample,
 }
 
 // An option: its name without hyphens, whether it is a flag, and a column for each command that says whether it has it.
@@ -19,6 +20,7 @@ pub(crate) struct OptionRow {
     pub run: bool,
     pub build: bool,
     pub replay: bool,
+    pub sample: bool,
 }
 
 impl OptionRow {
@@ -30,17 +32,19 @@ impl OptionRow {
             CommandWord::Run => self.run,
             CommandWord::Build => self.build,
             CommandWord::Replay => self.replay,
+            CommandWord::Sample => self.sample,
         }
     }
 }
 
-static OPTIONS: [OptionRow; 14] = [
+static OPTIONS: [OptionRow; 16] = [
     OptionRow {
         name: "dir",
         is_flag: false,
         run: true,
         build: true,
         replay: false,
+        sample: true,
     },
     OptionRow {
         name: "parts",
@@ -48,6 +52,7 @@ static OPTIONS: [OptionRow; 14] = [
         run: true,
         build: true,
         replay: true,
+        sample: true,
     },
     OptionRow {
         name: "iterations",
@@ -55,6 +60,7 @@ static OPTIONS: [OptionRow; 14] = [
         run: true,
         build: false,
         replay: false,
+        sample: true,
     },
     OptionRow {
         name: "budget",
@@ -62,6 +68,7 @@ static OPTIONS: [OptionRow; 14] = [
         run: true,
         build: true,
         replay: false,
+        sample: true,
     },
     OptionRow {
         name: "vertices",
@@ -69,6 +76,7 @@ static OPTIONS: [OptionRow; 14] = [
         run: true,
         build: true,
         replay: true,
+        sample: true,
     },
     OptionRow {
         name: "max-edges",
@@ -76,6 +84,7 @@ static OPTIONS: [OptionRow; 14] = [
         run: true,
         build: true,
         replay: false,
+        sample: false,
     },
     OptionRow {
         name: "max-bytes",
@@ -83,6 +92,7 @@ static OPTIONS: [OptionRow; 14] = [
         run: true,
         build: true,
         replay: false,
+        sample: false,
     },
     OptionRow {
         name: "both",
@@ -90,6 +100,7 @@ static OPTIONS: [OptionRow; 14] = [
         run: true,
         build: true,
         replay: true,
+        sample: true,
     },
     OptionRow {
         name: "mode",
@@ -97,6 +108,7 @@ static OPTIONS: [OptionRow; 14] = [
         run: true,
         build: false,
         replay: false,
+        sample: true,
     },
     OptionRow {
         name: "show",
@@ -104,6 +116,7 @@ static OPTIONS: [OptionRow; 14] = [
         run: true,
         build: false,
         replay: false,
+        sample: true,
     },
     OptionRow {
         name: "unit",
@@ -111,6 +124,7 @@ static OPTIONS: [OptionRow; 14] = [
         run: true,
         build: false,
         replay: true,
+        sample: true,
     },
     OptionRow {
         name: "share",
@@ -118,6 +132,7 @@ static OPTIONS: [OptionRow; 14] = [
         run: true,
         build: false,
         replay: true,
+        sample: true,
     },
     OptionRow {
         name: "from",
@@ -125,6 +140,7 @@ static OPTIONS: [OptionRow; 14] = [
         run: true,
         build: false,
         replay: true,
+        sample: true,
     },
     OptionRow {
         name: "seeds",
@@ -132,6 +148,23 @@ static OPTIONS: [OptionRow; 14] = [
         run: true,
         build: false,
         replay: true,
+        sample: true,
+    },
+    OptionRow {
+        name: "seed",
+        is_flag: false,
+        run: false,
+        build: false,
+        replay: false,
+        sample: true,
+    },
+    OptionRow {
+        name: "edges",
+        is_flag: false,
+        run: false,
+        build: false,
+        replay: false,
+        sample: true,
     },
 ];
 
@@ -150,6 +183,7 @@ pub(crate) fn command_of(word: &str) -> Option<CommandWord>
         "run" => Some(CommandWord::Run),
         "build" => Some(CommandWord::Build),
         "replay" => Some(CommandWord::Replay),
+        "sample" => Some(CommandWord::Sample),
         _ => None,
     }
 }
